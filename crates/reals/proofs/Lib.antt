@@ -1,0 +1,4 @@
+pub mod OrderLaws
+pub mod Units
+pub mod Sums
+pub mod Bits

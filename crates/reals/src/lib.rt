@@ -1,0 +1,3 @@
+// Reals as control loops use them: IEEE 754 binary32 numbers, each operation rounded once.
+pub mod order;
+pub mod words;
