@@ -1,0 +1,40 @@
+-- Checks in a fixed order, of which the first that fails decides.
+use mathlib.Core.Bool.{Bool, true, false, cond}
+use mathlib.Core.List.{List, [], _∷_}
+use Prim.Native.Nat.{ℕ}
+use lib.Ieee.{Float}
+use Rattle.std.specs.Floats.{finite}
+use Rattle.std.specs.declared.result.Result.{Result}
+use Rattle.std.specs.declared.result.Result.the-variants.{Ok, Err}
+use Rattle.reals.specs.Reals.{inside}
+use Rattle.terms.specs.declared.place.Place.{Place}
+use Rattle.terms.specs.declared.refusal.Cause.{Cause}
+use Rattle.terms.specs.declared.refusal.Cause.the-variants.{NotFinite, OutOfRange}
+use Rattle.block.specs.Words.{real-at}
+
+-- a test, with the cause of the refusal where it fails
+abbrev pub Check : Type 0
+Check = Bool × Cause
+
+-- the first cause whose test fails
+abbrev pub passed : List Check → Result Unit Cause
+passed [] = Ok tt
+passed (check ∷ rest) = cond (check .0) (passed rest) (Err (check .1))
+
+-- what follows an accepted step
+infixr 20 _next_
+abbrev pub _next_ : {A B E : Type 0} → Result A E → (A → Result B E) → Result B E
+_next_ (Ok x) f = f x
+_next_ (Err e) f = Err e
+
+-- the real x of a place is finite
+abbrev pub is-finite : Place → Float → Check
+is-finite p x = (finite x, NotFinite p)
+
+-- the real x of a place lies in low..high
+abbrev pub is-in : Float → Float → Place → Float → Check
+is-in low high p x = (inside low high x, OutOfRange p)
+
+-- the real of a field, refused where it is not finite
+abbrev pub finite-field : List ℕ → Place → Result Float Cause
+finite-field ws p = cond (finite (real-at ws p)) (Ok (real-at ws p)) (Err (NotFinite p))

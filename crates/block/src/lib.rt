@@ -1,0 +1,4 @@
+// The block: 128 device words that hold one loop.
+pub mod checks;
+pub mod key;
+pub mod words;
