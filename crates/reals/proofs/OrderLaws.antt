@@ -11,7 +11,7 @@ use lib.Ieee.Fits.{and-l, and-r, and-i, eq→eqb}
 use Rattle.std.specs.Floats.{finite}
 use Rattle.std.proofs.shelf.Tests.{or-cases, or-right}
 use Rattle.std.proofs.num.Compares.{passes, fails, le-of-lt, lt-of-not-le, le-of-not-lt, le-left, le-right, lt-irrefl, le-refl, le-trans, lt-of-lt-of-le, lt-of-le-of-lt}
-use Rattle.reals.specs.Reals.{brought}
+use Rattle.reals.specs.Reals.{brought, inside}
 use Rattle.reals.specs.Laws.{TotalOrder, Equality, Brought}
 
 -- ---- `bring`
@@ -136,6 +136,7 @@ pub ruleset orders = (le-refl, le-left, le-right, le-of-not-lt, le-of-lt, fails,
 -- ---- the laws, as the contracts name them
 
 pub total-order : TotalOrder
+unfolding inside
 total-order =
     record {
       reflexive = le-refl;

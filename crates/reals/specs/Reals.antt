@@ -12,7 +12,7 @@ abbrev pub brought : Float → Float → Float → Float
 brought x low high = cond (lt x low) low (cond (lt high x) high x)
 
 -- low ≤ x ≤ high
-abbrev pub inside : Float → Float → Float → Bool
+unfoldable pub inside : Float → Float → Float → Bool
 inside low high x = le low x && le x high
 
 -- x − d and x + d, each rounded once

@@ -1,12 +1,13 @@
 // The order of reals, and what is brought into a range.
 // Each law stands on a public call; the line that decides the value is in a private function beside it.
 ghost use mathlib.Core.Path.{_≡_};
-ghost use lib.Ieee.{eq};
+ghost use mathlib.Core.Bool.{_&&_};
+ghost use lib.Ieee.{le, eq};
 ghost use Rattle.reals.specs.Reals.{brought, inside, less, more};
 ghost use Rattle.reals.specs.Laws.{TotalOrder, Equality, Brought, Steps};
 
 fn lies_in(x: f32, low: f32, high: f32) -> bool
-    ensures { λ r. ⌜ r ≡ inside low high x ⌝ }
+    ensures { λ r. ⌜ r ≡ (le low x && le x high) ⌝ }
 {
     low <= x && x <= high
 }

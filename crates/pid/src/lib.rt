@@ -1,0 +1,3 @@
+// The PID loop: read from a block, started, and written back.
+pub mod fields;
+mod reading;
