@@ -1,5 +1,5 @@
 -- Checks in a fixed order, of which the first that fails decides.
-use mathlib.Core.Bool.{Bool, true, false, cond}
+use mathlib.Core.Bool.{Bool, true, false, cond, _&&_}
 use mathlib.Core.List.{List, [], _∷_}
 use Prim.Native.Nat.{ℕ}
 use lib.Ieee.{Float}
@@ -20,6 +20,15 @@ Check = Bool × Cause
 abbrev pub passed : List Check → Result Unit Cause
 passed [] = Ok tt
 passed (check ∷ rest) = cond (check .0) (passed rest) (Err (check .1))
+
+-- whether every test passes
+abbrev pub sound : List Check → Bool
+sound [] = true
+sound (check ∷ rest) = check .0 && sound rest
+
+abbrev pub all : List Bool → Bool
+all [] = true
+all (b ∷ rest) = b && all rest
 
 -- what follows an accepted step
 infixr 20 _next_

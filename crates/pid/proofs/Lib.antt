@@ -1,0 +1,2 @@
+pub mod Goodness
+pub mod Starts

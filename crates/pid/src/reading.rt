@@ -2,7 +2,7 @@
 ghost use mathlib.Core.Path.{_≡_};
 ghost use mathlib.Core.List.{[], _∷_};
 ghost use Rattle.block.specs.Checks.{passed};
-ghost use Rattle.pid.specs.Reading.{periods as periods-of, settings-checks, bounds-ranges, tuning-ranges, relation-checks};
+ghost use Rattle.pid.specs.Checks.{periods as periods-of, settings-checks, bounds-ranges, tuning-ranges, relation-checks};
 ghost use Rattle.pid.specs.Reading.{signals-read, bounds-read, tuning-read, past-read, checked-of};
 use crate::fields::Bounds;
 use crate::fields::Fields;
@@ -13,29 +13,17 @@ use block::checks::finite_at;
 use block::checks::in_range;
 use block::words::LENGTH;
 use block::words::word_at;
+use reals::numbers::BOTTOM;
+use reals::numbers::HUNDRED;
+use reals::numbers::LEAST;
+use reals::numbers::LONGEST;
+use reals::numbers::MOST;
+use reals::numbers::NARROWEST;
+use reals::numbers::TOP;
+use reals::numbers::ZERO;
 use std::num::saturating_f32_to_u16;
 use terms::place::Place;
 use terms::refusal::Cause;
-
-const ZERO: f32 = 0.0;
-
-const HUNDRED: f32 = 100.0;
-
-// The ends of an output.
-const BOTTOM: f32 = -10.0;
-
-const TOP: f32 = 110.0;
-
-// The ends of what is typed in units of the plant, and the upper end of times and gains.
-const LEAST: f32 = -999999.0;
-
-const MOST: f32 = 999999.0;
-
-// The narrowest span of a measuring range: 1/1024.
-const NARROWEST: f32 = 0.0009765625;
-
-// The most scans of a control period.
-const LONGEST: f32 = 32767.0;
 
 // N, the number of scans in a control period: the whole part of CT ÷ ΔT, or 1 where that is below 1.
 pub fn periods(ct: f32, dt: f32) -> u16

@@ -2,3 +2,4 @@ pub mod OrderLaws
 pub mod Units
 pub mod Sums
 pub mod Bits
+pub mod Finite

@@ -1,12 +1,9 @@
--- The numbers that the ranges of a PID loop go by.
+-- The numbers that the ranges of a loop go by.
 use lib.Ieee.{Float, binary32, ofBits}
 
--- 0, 1 and 100
+-- 0 and 100
 abbrev pub zero : Float
 zero = ofBits binary32 0
-
-abbrev pub one : Float
-one = ofBits binary32 0x3f80_0000
 
 abbrev pub hundred : Float
 hundred = ofBits binary32 0x42c8_0000

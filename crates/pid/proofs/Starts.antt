@@ -1,0 +1,122 @@
+-- A started loop passes every check. Assumes nothing.
+use mathlib.Core.Bool.{Bool, true, false, cond, _&&_}
+use Prim.Native.Nat.{ℕ, max, _<_}
+use native.Mathlib.Omega.{arith}
+use lib.Dec.{T, ltb, leb, lt→ltb}
+use lib.Ieee.{Float, binary32, lt, le, sub, mul, div, fits, ofBits, toUnsigned}
+use lib.Ieee.Fits.{mul-fits}
+use lib.Ieee.Bits.{ofBits-fits}
+use Rattle.std.specs.Floats.{finite}
+use Rattle.std.proofs.num.Compares.{le-trans}
+use Rattle.reals.specs.Numbers.{zero, hundred, bottom, top, least, most, narrowest, longest}
+use Rattle.reals.specs.Reals.{brought, inside}
+use Rattle.reals.proofs.OrderLaws.{bring-low, bring-high}
+use Rattle.reals.proofs.Finite.{sub-finite, over-span-finite, mul-number}
+use Rattle.block.proofs.Passing.{both, split}
+use Rattle.pid.specs.declared.fields.Fields.{Fields}
+use Rattle.pid.specs.Checks.{periods, good, good-e2}
+use Rattle.pid.specs.Starting.{percent-of, started-e2, cold-fields}
+use Rattle.pid.proofs.Goodness.{Good, goodness, is-good, range}
+
+-- ---- S
+
+brought-by : (P : Float → Type 0) (x a b : Float) → P x → P a → P b → P (brought x a b)
+brought-by P x a b px pa pb = go (lt x a) (lt b x)
+  where
+    go : (c d : Bool) → P (cond c a (cond d b x))
+    go true d = pa
+    go false true = pb
+    go false false = px
+
+-- the measuring range, and SV in it
+record Measuring (f : Fields) : Type 0 where
+  rh : T (le least (f .bounds .rh)) × T (le (f .bounds .rh) most)
+  rl : T (le least (f .bounds .rl)) × T (le (f .bounds .rl) most)
+  wide : T (le narrowest (sub binary32 (f .bounds .rh) (f .bounds .rl)))
+  sv : T (le (f .bounds .rl) (f .sv)) × T (le (f .sv) (f .bounds .rh))
+
+measuring : (f : Fields) → Good f → Measuring f
+measuring f g =
+    let a = split (inside bottom top (f .mv)) _ (g .ranges) in
+    let b = split (inside bottom top (f .bounds .mh)) _ (a .1) in
+    let c = split (inside bottom top (f .bounds .ml)) _ (b .1) in
+    let d = split (inside least most (f .bounds .rh)) _ (c .1) in
+    let e = split (inside least most (f .bounds .rl)) true (d .1) in
+    let p = split (le (f .bounds .ml) (f .bounds .mh)) _ (g .related) in
+    let q = split (le narrowest (sub binary32 (f .bounds .rh) (f .bounds .rl))) _ (p .1) in
+    let r = split (le (div binary32 (f .tuning .ct) (f .settings .dt)) longest) _ (q .1) in
+    let s = split (inside (f .bounds .rl) (f .bounds .rh) (f .sv)) _ (r .1) in
+    record {
+      rh = range least most (f .bounds .rh) (d .0);
+      rl = range least most (f .bounds .rl) (e .0);
+      wide = q .0;
+      sv = range (f .bounds .rl) (f .bounds .rh) (f .sv) (s .0);
+    }
+
+zero-hundred : T (le zero hundred)
+zero-hundred = unfold le in unfold ofBits in tt
+
+bottom-zero : T (le bottom zero)
+bottom-zero = unfold le in unfold ofBits in tt
+
+hundred-top : T (le hundred top)
+hundred-top = unfold le in unfold ofBits in tt
+
+-- S lies in 0..100
+pub percent-in : (f : Fields) → Good f → T (le zero (started-e2 f)) × T (le (started-e2 f) hundred)
+percent-in f g =
+    let m = measuring f g in
+    let rl = f .bounds .rl in
+    let span = sub binary32 (f .bounds .rh) rl in
+    let above = sub binary32 (f .sv) rl in
+    let sv : T (le least (f .sv)) × T (le (f .sv) most) = (le-trans least rl (f .sv) (m .rl .0) (m .sv .0), le-trans (f .sv) (f .bounds .rh) most (m .sv .1) (m .rh .1)) in
+    let n = mul-number binary32 (div binary32 hundred span) above (over-span-finite span (sub-finite (f .bounds .rh) rl (m .rh) (m .rl)) (m .wide)) (sub-finite (f .sv) rl sv (m .rl)) in
+    let x = mul binary32 (div binary32 hundred span) above in
+    (bring-low x zero hundred n zero-hundred, bring-high x zero hundred n zero-hundred)
+
+pub good-percent : (f : Fields) → T (good f) → T (good-e2 (started-e2 f))
+unfolding good-e2
+good-percent f t =
+    let s = started-e2 f in
+    let p = percent-in f (goodness f t) in
+    both (le bottom s) _ (le-trans bottom zero s bottom-zero (p .0))
+    (both (le s top) _ (le-trans s hundred top (p .1) hundred-top)
+    (brought-by (λ z. T (fits binary32 z)) _ zero hundred (mul-fits binary32 _ _) (ofBits-fits binary32 0) (ofBits-fits binary32 0x42c8_0000)))
+
+-- ---- a cold start
+
+zero-finite : T (finite zero)
+zero-finite = unfold finite in unfold ofBits in tt
+
+zero-held : T (fits binary32 zero)
+zero-held = ofBits-fits binary32 0
+
+some-scan : (ct dt : Float) → T (ltb 0 (periods ct dt))
+some-scan ct dt = lt→ltb 0 (periods ct dt) (omega arith)
+
+pub good-cold : (f : Fields) → T (good f) → T (good (cold-fields f))
+good-cold f t =
+    let g = goodness f t in
+    let past = split (finite (f .past .mvp)) _ (g .past) in
+    let kept = split (fits binary32 (f .past .mvp)) _ (g .past-kept) in
+    let p = split (le (f .bounds .ml) (f .bounds .mh)) _ (g .related) in
+    let q = split (le narrowest (sub binary32 (f .bounds .rh) (f .bounds .rl))) _ (p .1) in
+    let r = split (le (div binary32 (f .tuning .ct) (f .settings .dt)) longest) _ (q .1) in
+    let s = split (inside (f .bounds .rl) (f .bounds .rh) (f .sv)) _ (r .1) in
+    let n = some-scan (f .tuning .ct) (f .settings .dt) in
+    let z = zero-finite in
+    let h = zero-held in
+    is-good (cold-fields f)
+    record {
+      settings = g .settings;
+      signals = g .signals;
+      bounds = g .bounds;
+      tuning = g .tuning;
+      past = both _ _ (past .0) (both _ _ z (both _ _ z (both _ _ z (both _ _ z (both _ true z tt)))));
+      ranges = g .ranges;
+      tuned = g .tuned;
+      related = both _ _ (p .0) (both _ _ (q .0) (both _ _ (r .0) (both _ _ (s .0) (both _ true n tt))));
+      kept = g .kept;
+      tuning-kept = g .tuning-kept;
+      past-kept = both _ _ (kept .0) (both _ _ h (both _ _ h (both _ _ h (both _ _ h (both _ true h tt)))));
+    }

@@ -1,0 +1,129 @@
+-- The checks of a PID block, in the order in which reading makes them. A loop passes them all, always.
+use mathlib.Core.Bool.{Bool, true, false, _&&_}
+use mathlib.Core.List.{List, [], _∷_}
+use Prim.Native.Nat.{ℕ, max}
+use lib.Dec.{eqb, leb, ltb}
+use lib.ListN.{length}
+use lib.Ieee.{Float, binary32, lt, le, sub, div, toUnsigned, fits}
+use Rattle.terms.specs.declared.place.Place.the-variants as at
+use Rattle.terms.specs.declared.refusal.Cause.the-variants.{WrongLength, OutOfRange, LimitsCrossed, SpanTooSmall, PeriodTooLong}
+use Rattle.block.specs.Words.{block-length}
+use Rattle.block.specs.Key.{key-valid}
+use Rattle.block.specs.Checks.{Check, is-finite, is-in, sound, all}
+use Rattle.pid.specs.declared.fields.Settings.{Settings}
+use Rattle.pid.specs.declared.fields.Bounds.{Bounds}
+use Rattle.pid.specs.declared.fields.Tuning.{Tuning}
+use Rattle.pid.specs.declared.fields.Past.{Past}
+use Rattle.pid.specs.declared.fields.Fields.{Fields}
+use Rattle.reals.specs.Numbers.{zero, hundred, bottom, top, least, most, narrowest, longest}
+
+-- N, the number of scans in a control period: the whole part of CT ÷ ΔT, or 1 where that is below 1
+abbrev pub periods : Float → Float → ℕ
+periods ct dt = max 1 (toUnsigned 16 (div binary32 ct dt))
+
+abbrev pub length-checks : List ℕ → List Check
+length-checks ws = (eqb (length ws) block-length, WrongLength) ∷ []
+
+-- each setting finite and then in its range; key and PN are whole numbers
+abbrev pub settings-checks : Settings → List Check
+settings-checks st =
+    (key-valid (st .key), OutOfRange at.ModeKey)
+    ∷ is-finite at.ScanPeriod (st .dt)
+    ∷ (lt zero (st .dt) && le (st .dt) most, OutOfRange at.ScanPeriod)
+    ∷ is-finite at.Md (st .md)
+    ∷ is-in zero most at.Md (st .md)
+    ∷ (leb (st .pn) 1, OutOfRange at.Pn)
+    ∷ []
+
+-- every real finite, offsets rising
+abbrev pub signals-finite : Float → Float → List Check
+signals-finite mv sv = is-finite at.Mv mv ∷ is-finite at.Sv sv ∷ []
+
+abbrev pub bounds-finite : Bounds → List Check
+bounds-finite b = is-finite at.Mh (b .mh) ∷ is-finite at.Ml (b .ml) ∷ is-finite at.Rh (b .rh) ∷ is-finite at.Rl (b .rl) ∷ []
+
+abbrev pub tuning-finite : Tuning → List Check
+tuning-finite t =
+    is-finite at.Ct (t .ct)
+    ∷ is-finite at.Dml (t .dml)
+    ∷ is-finite at.P (t .p)
+    ∷ is-finite at.Ti (t .ti)
+    ∷ is-finite at.Td (t .td)
+    ∷ is-finite at.Gw (t .gw)
+    ∷ is-finite at.Gg (t .gg)
+    ∷ []
+
+abbrev pub past-finite : Past → List Check
+past-finite p =
+    is-finite at.Mvp (p .mvp)
+    ∷ is-finite at.B (p .b)
+    ∷ is-finite at.Measured (p .measured)
+    ∷ is-finite at.Measured1 (p .measured1)
+    ∷ is-finite at.Measured2 (p .measured2)
+    ∷ is-finite at.LastDv (p .dv)
+    ∷ []
+
+-- ranges, offsets rising, SV and the counter left for the end
+abbrev pub bounds-ranges : Float → Bounds → List Check
+bounds-ranges mv b =
+    is-in bottom top at.Mv mv
+    ∷ is-in bottom top at.Mh (b .mh)
+    ∷ is-in bottom top at.Ml (b .ml)
+    ∷ is-in least most at.Rh (b .rh)
+    ∷ is-in least most at.Rl (b .rl)
+    ∷ []
+
+abbrev pub tuning-ranges : Tuning → List Check
+tuning-ranges t =
+    is-in zero most at.Ct (t .ct)
+    ∷ is-in zero hundred at.Dml (t .dml)
+    ∷ is-in zero most at.P (t .p)
+    ∷ is-in zero most at.Ti (t .ti)
+    ∷ is-in zero most at.Td (t .td)
+    ∷ is-in zero hundred at.Gw (t .gw)
+    ∷ is-in zero most at.Gg (t .gg)
+    ∷ []
+
+-- ML at most MH, RH − RL at least 1/1024, CT ÷ ΔT at most 32767; then SV and the counter
+abbrev pub relation-checks : Fields → List Check
+relation-checks f =
+    (le (f .bounds .ml) (f .bounds .mh), LimitsCrossed)
+    ∷ (le narrowest (sub binary32 (f .bounds .rh) (f .bounds .rl)), SpanTooSmall)
+    ∷ (le (div binary32 (f .tuning .ct) (f .settings .dt)) longest, PeriodTooLong)
+    ∷ is-in (f .bounds .rl) (f .bounds .rh) at.Sv (f .sv)
+    ∷ (ltb (f .counter) (periods (f .tuning .ct) (f .settings .dt)), OutOfRange at.Counter)
+    ∷ []
+
+-- ---- the fields of a loop pass every check, and binary32 holds each of their reals
+
+abbrev pub held : Fields → List Bool
+held f =
+    fits binary32 (f .mv) ∷ fits binary32 (f .sv)
+    ∷ fits binary32 (f .bounds .mh) ∷ fits binary32 (f .bounds .ml) ∷ fits binary32 (f .bounds .rh) ∷ fits binary32 (f .bounds .rl)
+    ∷ fits binary32 (f .settings .dt) ∷ fits binary32 (f .settings .md) ∷ []
+
+abbrev pub tuning-held : Tuning → List Bool
+tuning-held t =
+    fits binary32 (t .ct) ∷ fits binary32 (t .dml) ∷ fits binary32 (t .p) ∷ fits binary32 (t .ti) ∷ fits binary32 (t .td)
+    ∷ fits binary32 (t .gw) ∷ fits binary32 (t .gg) ∷ []
+
+abbrev pub past-held : Past → List Bool
+past-held p =
+    fits binary32 (p .mvp) ∷ fits binary32 (p .b) ∷ fits binary32 (p .measured) ∷ fits binary32 (p .measured1) ∷ fits binary32 (p .measured2)
+    ∷ fits binary32 (p .dv) ∷ []
+
+unfoldable pub good : Fields → Bool
+good f =
+    sound (settings-checks (f .settings))
+    && (sound (signals-finite (f .mv) (f .sv))
+    && (sound (bounds-finite (f .bounds))
+    && (sound (tuning-finite (f .tuning))
+    && (sound (past-finite (f .past))
+    && (sound (bounds-ranges (f .mv) (f .bounds))
+    && (sound (tuning-ranges (f .tuning))
+    && (sound (relation-checks f)
+    && (all (held f) && (all (tuning-held (f .tuning)) && all (past-held (f .past)))))))))))
+
+-- E2, which no block holds: a remote value, or the setpoint in percent
+unfoldable pub good-e2 : Float → Bool
+good-e2 e2 = le bottom e2 && (le e2 top && fits binary32 e2)

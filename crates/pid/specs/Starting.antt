@@ -1,0 +1,40 @@
+-- Starting a block that was read.
+use Prim.Native.Nat.{ℕ}
+use lib.Bits.{bitOr}
+use lib.Ieee.{Float, binary32, sub, mul, div}
+use Rattle.reals.specs.Numbers.{zero, hundred}
+use Rattle.reals.specs.Reals.{brought}
+use Rattle.pid.specs.declared.fields.Bounds.{Bounds}
+use Rattle.pid.specs.declared.fields.Past.{Past}
+use Rattle.pid.specs.declared.fields.Fields.{Fields}
+
+-- S, the setpoint in percent: S = (100 ÷ (RH − RL)) × (SV − RL), brought into 0..100
+abbrev pub percent-of : Float → Bounds → Float
+percent-of sv b = brought (mul binary32 (div binary32 hundred (sub binary32 (b .rh) (b .rl))) (sub binary32 sv (b .rl))) zero hundred
+
+-- a warm start and a cold start set E2 to S
+abbrev pub started-e2 : Fields → Float
+started-e2 f = percent-of (f .sv) (f .bounds)
+
+-- TRKF, bit 13 of INH, set
+abbrev pub with-trkf : ℕ → ℕ
+with-trkf inh = bitOr inh 0x2000
+
+-- a cold start zeroes the past values of offsets 97 to 110 and sets TRKF; MVP stays
+abbrev pub cold-past : Past → Past
+cold-past p = record { mvp = p .mvp; b = zero; measured = zero; measured1 = zero; measured2 = zero; dv = zero }
+
+abbrev pub cold-fields : Fields → Fields
+cold-fields f =
+    record {
+      mode = f .mode;
+      alm = f .alm;
+      inh = with-trkf (f .inh);
+      mv = f .mv;
+      sv = f .sv;
+      counter = 0;
+      bounds = f .bounds;
+      tuning = f .tuning;
+      past = cold-past (f .past);
+      settings = f .settings;
+    }
