@@ -1,5 +1,5 @@
 -- Checks that pass, and chains of steps that came to their end. Assumes nothing.
-use mathlib.Core.Path.{_≡_, refl}
+use mathlib.Core.Path.{_≡_, refl, ap, _∙_}
 use mathlib.Core.Bool.{Bool, true, false, cond, _&&_}
 use mathlib.Core.List.{List, [], _∷_}
 use Prim.Native.Nat.{ℕ}
@@ -7,6 +7,7 @@ use native.Mathlib.Omega.{arith}
 use lib.Dec.{T}
 use Rattle.std.specs.declared.result.Result.{Result}
 use Rattle.std.specs.declared.result.Result.the-variants.{Ok, Err}
+use Rattle.terms.specs.declared.refusal.Cause.{Cause}
 use Rattle.block.specs.Checks.{Check, passed, sound, _next_}
 
 pub both : (a b : Bool) → T a → T b → T (a && b)
@@ -42,6 +43,14 @@ sound-passed (c ∷ cs) t = go (c .0) (λ h. sound-passed cs h) t
     go true f h = f h
     go false f h = absurd h
 
--- checks that give way to a value
-pub passed-next : {A : Type 0} (cs : List Check) (a b : A) → (passed cs next λ _. Ok a) ≡ Ok b → T (sound cs) × (a ≡ b)
-passed-next cs a b e = let h = next-ok (passed cs) (λ _. Ok a) b e in let u : passed cs ≡ Ok tt = h .1 in (passed-sound cs u, cc (h .2))
+-- a chain that came to its end passed the checks that it began with
+pub passed-next : {B : Type 0} (cs : List Check) (f : Unit {0} → Result B Cause) (b : B) → (passed cs next f) ≡ Ok b → T (sound cs) × (f tt ≡ Ok b)
+passed-next cs f b e = let h = next-ok (passed cs) f b e in (passed-sound cs (h .1), h .2)
+
+-- the same where the checks give way to a value
+pub given-next : {A B : Type 0} (cs : List Check) (a : A) (f : A → Result B Cause) (b : B) → ((passed cs next λ _. Ok a) next f) ≡ Ok b → T (sound cs) × (f a ≡ Ok b)
+given-next cs a f b e =
+    let h = next-ok (passed cs next λ _. Ok a) f b e in
+    let k = passed-next cs (λ _. Ok a) (h .0) (h .1) in
+    let q : a ≡ h .0 = cc (k .1) in
+    (k .0, ap f q ∙ h .2)

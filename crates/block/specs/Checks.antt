@@ -10,6 +10,8 @@ use Rattle.reals.specs.Reals.{inside}
 use Rattle.terms.specs.declared.place.Place.{Place}
 use Rattle.terms.specs.declared.refusal.Cause.{Cause}
 use Rattle.terms.specs.declared.refusal.Cause.the-variants.{NotFinite, OutOfRange}
+use Rattle.terms.specs.declared.refusal.Refusal.{Refusal}
+use Rattle.terms.specs.Refusals.{refused}
 use Rattle.block.specs.Words.{real-at}
 
 -- a test, with the cause of the refusal where it fails
@@ -47,3 +49,8 @@ is-in low high p x = (inside low high x, OutOfRange p)
 -- the real of a field, refused where it is not finite
 abbrev pub finite-field : List ℕ → Place → Result Float Cause
 finite-field ws p = cond (finite (real-at ws p)) (Ok (real-at ws p)) (Err (NotFinite p))
+
+-- a cause as a refusal of a call without levels
+abbrev pub at-top : {A : Type 0} → Result A Cause → Result A Refusal
+at-top (Ok x) = Ok x
+at-top (Err c) = Err (refused c)

@@ -1,2 +1,3 @@
 pub mod Goodness
 pub mod Starts
+pub mod Accepts

@@ -10,9 +10,10 @@ use Rattle.terms.specs.declared.mode.Mode.{Mode}
 use Rattle.terms.specs.declared.place.Place.the-variants as at
 use Rattle.terms.specs.declared.refusal.Cause.{Cause}
 use Rattle.terms.specs.declared.refusal.Cause.the-variants.{ModeNotCarried}
+use Rattle.terms.specs.declared.refusal.Refusal.{Refusal}
 use Rattle.block.specs.Words.{word-at, real-at}
 use Rattle.block.specs.Key.{mode-in}
-use Rattle.block.specs.Checks.{passed, _next_}
+use Rattle.block.specs.Checks.{passed, _next_, at-top}
 use Rattle.pid.specs.declared.fields.Settings.{Settings}
 use Rattle.pid.specs.declared.fields.Bounds.{Bounds}
 use Rattle.pid.specs.declared.fields.Tuning.{Tuning}
@@ -98,3 +99,6 @@ checked-of ws st =
     next λ _. passed (tuning-ranges t)
     next λ _. passed (relation-checks (fields-with ws st s b t p m))
     next λ _. Ok (fields-with ws st s b t p m)
+
+abbrev pub read-of : List ℕ → Settings → Result Fields Refusal
+read-of ws st = at-top (checked-of ws st)

@@ -1,5 +1,6 @@
 // The PID loop: read from a block, started, and written back.
 pub mod fields;
-mod reading;
+pub mod reading;
 pub mod starting;
 pub mod states;
+pub mod writing;

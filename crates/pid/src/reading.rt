@@ -3,12 +3,14 @@ ghost use mathlib.Core.Path.{_≡_};
 ghost use mathlib.Core.List.{[], _∷_};
 ghost use Rattle.block.specs.Checks.{passed};
 ghost use Rattle.pid.specs.Checks.{periods as periods-of, settings-checks, bounds-ranges, tuning-ranges, relation-checks};
-ghost use Rattle.pid.specs.Reading.{signals-read, bounds-read, tuning-read, past-read, checked-of};
+ghost use Rattle.pid.specs.Reading.{signals-read, bounds-read, tuning-read, past-read, checked-of, read-of};
+ghost use Rattle.pid.specs.Blocks.{as-fields};
 use crate::fields::Bounds;
 use crate::fields::Fields;
 use crate::fields::Past;
 use crate::fields::Settings;
 use crate::fields::Tuning;
+use crate::states::PidBlock;
 use block::checks::finite_at;
 use block::checks::in_range;
 use block::words::LENGTH;
@@ -24,6 +26,7 @@ use reals::numbers::ZERO;
 use std::num::saturating_f32_to_u16;
 use terms::place::Place;
 use terms::refusal::Cause;
+use terms::refusal::Refusal;
 
 // N, the number of scans in a control period: the whole part of CT ÷ ΔT, or 1 where that is below 1.
 pub fn periods(ct: f32, dt: f32) -> u16
@@ -129,7 +132,7 @@ fn read_past(words: &[u16]) -> Result<Past, Cause>
 }
 
 // The fields of a block, or the first cause for refusing it.
-pub(crate) fn checked(words: &[u16], settings: Settings) -> Result<Fields, Cause>
+fn checked(words: &[u16], settings: Settings) -> Result<Fields, Cause>
     ensures { λ r. ⌜ r ≡ checked-of (now (words .entry)) settings ⌝ }
 {
     refuse_unless(words.len() == LENGTH, Cause::WrongLength)?;
@@ -157,4 +160,14 @@ pub(crate) fn checked(words: &[u16], settings: Settings) -> Result<Fields, Cause
     };
     check_relations(fields)?;
     Ok(fields)
+}
+
+// Reads a block: the first refusal in the order of the checks, or the block with its fields.
+pub fn read(words: &[u16], settings: Settings) -> Result<PidBlock, Refusal>
+    ensures { λ r. ⌜ as-fields r ≡ read-of (now (words .entry)) settings ⌝ }
+{
+    match checked(words, settings) {
+        Ok(fields) => Ok(PidBlock { fields }),
+        Err(cause) => Err(Refusal { cause, level: 0 }),
+    }
 }
