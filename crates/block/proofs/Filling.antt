@@ -2,7 +2,7 @@
 use mathlib.Core.Path.{_≡_, refl, sym, ap, _∙_, subst}
 use mathlib.Core.Bool.{Bool, true, false, cond}
 use mathlib.Core.Logic.{_≢_}
-use mathlib.Core.List.{List, [], _∷_}
+use mathlib.Core.List.{List, [], _∷_, _++_}
 use Prim.Native.Nat.{ℕ, _+_, _<_, _^_}
 use native.Mathlib.Omega.{arith}
 use lib.Dec.{T, eqb, eqb→eq}
@@ -16,6 +16,8 @@ use Rattle.reals.proofs.Bits.{real-back, low-back, high-back}
 use Rattle.terms.specs.declared.place.Place.{Place}
 use Rattle.terms.specs.Refusals.{place-number}
 use Rattle.block.specs.Words.{word-at, real-at, fill, two-words}
+use Rattle.block.specs.Checks.{Check, sound, is-finite}
+use Rattle.block.proofs.Passing.{split}
 
 -- what a list of fillings puts at offset i, over w
 abbrev pub look : List (ℕ × ℕ) → ℕ → ℕ → ℕ
@@ -58,6 +60,31 @@ real-kept es ws p x h f a b =
     let i : place-number p < length ws = omega arith in
     (λ k. real-of ((fill-get es ws (place-number p) i ∙ a) k) ((fill-get es ws (place-number p + 1) h ∙ b) k)) ∙ real-back x f
 
--- the words of a finite real that was read are the words that it was read from
-pub words-kept : (ws : List ℕ) (p : Place) → getD ws (place-number p) 0 < 2 ^ 16 → getD ws (place-number p + 1) 0 < 2 ^ 16 → T (finite (real-at ws p)) → Agrees (two-words p (real-at ws p)) ws
-words-kept ws p l h f = (low-back _ _ l h f, (high-back _ _ l h f, tt))
+-- a word that was filled in is read again
+pub word-kept : (es : List (ℕ × ℕ)) (ws : List ℕ) (p : Place) (w : ℕ) → place-number p < length ws → look es (place-number p) (getD ws (place-number p) 0) ≡ w → word-at (fill es ws) p ≡ w
+word-kept es ws p w h e = fill-get es ws (place-number p) h ∙ e
+
+-- ---- finite reals that were read have the words that they were read from
+
+pub join : (xs ys : List (ℕ × ℕ)) (ws : List ℕ) → Agrees xs ws → Agrees ys ws → Agrees (xs ++ ys) ws
+join [] ys ws a b = b
+join (x ∷ xs) ys ws a b = (a .0, join xs ys ws (a .1) b)
+
+abbrev pub finite-all : List ℕ → List Place → List Check
+finite-all ws [] = []
+finite-all ws (p ∷ ps) = is-finite p (real-at ws p) ∷ finite-all ws ps
+
+abbrev pub words-all : List ℕ → List Place → List (ℕ × ℕ)
+words-all ws [] = []
+words-all ws (p ∷ ps) = two-words p (real-at ws p) ++ words-all ws ps
+
+-- each word has 16 bits
+abbrev pub Sixteen : List ℕ → Type 0
+Sixteen ws = (i : ℕ) → getD ws i 0 < 2 ^ 16
+
+pub all-agree : (ws : List ℕ) → Sixteen ws → (ps : List Place) → T (sound (finite-all ws ps)) → Agrees (words-all ws ps) ws
+all-agree ws b [] t = tt
+all-agree ws b (p ∷ ps) t =
+    let s = split (finite (real-at ws p)) (sound (finite-all ws ps)) t in
+    let n = place-number p in
+    (low-back (getD ws n 0) (getD ws (n + 1) 0) (b n) (b (n + 1)) (s .0), (high-back (getD ws n 0) (getD ws (n + 1) 0) (b n) (b (n + 1)) (s .0), all-agree ws b ps (s .1)))

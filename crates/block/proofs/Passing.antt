@@ -8,7 +8,7 @@ use lib.Dec.{T}
 use Rattle.std.specs.declared.result.Result.{Result}
 use Rattle.std.specs.declared.result.Result.the-variants.{Ok, Err}
 use Rattle.terms.specs.declared.refusal.Cause.{Cause}
-use Rattle.block.specs.Checks.{Check, passed, sound, _next_}
+use Rattle.block.specs.Checks.{Check, passed, sound, all, _next_}
 
 pub both : (a b : Bool) → T a → T b → T (a && b)
 both true b t u = u
@@ -17,6 +17,19 @@ both false b t u = absurd t
 pub split : (a b : Bool) → T (a && b) → T a × T b
 split true b t = (tt, t)
 split false b t = absurd t
+
+-- all of a list of tests, one by one
+abbrev pub All : List Bool → Type 0
+All [] = Unit {0}
+All (b ∷ bs) = T b × All bs
+
+pub spread : (bs : List Bool) → T (all bs) → All bs
+spread [] t = tt
+spread (b ∷ bs) t = let p = split b (all bs) t in (p .0, spread bs (p .1))
+
+pub gather : (bs : List Bool) → All bs → T (all bs)
+gather [] h = tt
+gather (b ∷ bs) h = both b (all bs) (h .0) (gather bs (h .1))
 
 pub not-ok : {A E : Type 0} (e : E) (a : A) → Err e ≡ Ok a → ⊥
 not-ok e a h = let z : _≡_ {A = ℕ} 0 1 = cc in omega arith
@@ -54,3 +67,10 @@ given-next cs a f b e =
     let k = passed-next cs (λ _. Ok a) (h .0) (h .1) in
     let q : a ≡ h .0 = cc (k .1) in
     (k .0, ap f q ∙ h .2)
+
+-- and the other way round: checks whose tests pass give way to what follows
+pub step-passed : {B : Type 0} (cs : List Check) (f : Unit {0} → Result B Cause) → T (sound cs) → (passed cs next f) ≡ f tt
+step-passed cs f t = rw (sound-passed cs t) refl
+
+pub step-given : {A B : Type 0} (cs : List Check) (a : A) (f : A → Result B Cause) → T (sound cs) → ((passed cs next λ _. Ok a) next f) ≡ f a
+step-given cs a f t = rw (sound-passed cs t) refl

@@ -1,3 +1,4 @@
 pub mod Goodness
 pub mod Starts
 pub mod Accepts
+pub mod Trips

@@ -3,3 +3,4 @@ pub mod Reading
 pub mod Blocks
 pub mod Starting
 pub mod Writing
+pub mod RoundTrips

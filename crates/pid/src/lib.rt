@@ -1,6 +1,7 @@
 // The PID loop: read from a block, started, and written back.
 pub mod fields;
 pub mod reading;
+pub mod round_trips;
 pub mod starting;
 pub mod states;
 pub mod writing;

@@ -1,0 +1,31 @@
+-- What words and loops are after a round trip.
+use mathlib.Core.Bool.{cond}
+use mathlib.Core.List.{List}
+use Prim.Native.Nat.{ℕ}
+use lib.Dec.{eqb}
+use lib.ListN.{length, getD, set}
+use lib.Ieee.{Float}
+use Rattle.std.specs.declared.result.Result.{Result}
+use Rattle.std.specs.declared.result.Result.the-variants.{Ok, Err}
+use Rattle.terms.specs.declared.refusal.Refusal.{Refusal}
+use Rattle.block.specs.Words.{block-length}
+use Rattle.pid.specs.declared.fields.Fields.{Fields}
+use Rattle.pid.specs.Starting.{started-e2}
+
+-- the same words, save that offset 16 holds a copy of the real at offset 110
+abbrev pub with-copy : List ℕ → List ℕ
+with-copy ws = set (set ws 16 (getD ws 110 0)) 17 (getD ws 111 0)
+
+-- words that were read, started warm and written back over themselves are the same block; refused, they stay as found
+abbrev pub same-block : Result Fields Refusal → List ℕ → List ℕ
+same-block (Ok f) ws = with-copy ws
+same-block (Err e) ws = ws
+
+-- the answer is reading's: nothing to tell, or its refusal
+abbrev pub answer-of : Result Fields Refusal → Result Unit Refusal
+answer-of (Ok f) = Ok tt
+answer-of (Err e) = Err e
+
+-- a loop that was written, read with its own settings and started warm has S for its E2; where the words are refused, it keeps its E2
+abbrev pub restarted-e2 : Fields → Float → List ℕ → Float
+restarted-e2 f e2 ws = cond (eqb (length ws) block-length) (started-e2 f) e2

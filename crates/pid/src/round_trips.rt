@@ -1,0 +1,32 @@
+// Round trips: a block through a loop, and a loop through a block.
+ghost use mathlib.Core.Path.{_≡_};
+ghost use Rattle.pid.specs.Reading.{read-of};
+ghost use Rattle.pid.specs.Writing.{written, write-answer};
+ghost use Rattle.pid.specs.RoundTrips.{same-block, answer-of, restarted-e2};
+use crate::fields::Settings;
+use crate::reading::read;
+use crate::states::Pid;
+use terms::refusal::Refusal;
+
+// Reads a block, starts it warm and writes it back over itself. It is the same block then: only offset 16 is made a copy of the real at 110.
+pub fn write_back(words: &mut [u16], settings: Settings) -> Result<(), Refusal>
+    ensures answer { λ r. ⌜ r ≡ answer-of (read-of (now (words .entry)) settings) ⌝ }
+    ensures words { λ _. ⌜ now (words .exit) ≡ same-block (read-of (now (words .entry)) settings) (now (words .entry)) ⌝ }
+{
+    let block = read(words, settings)?;
+    block.warm_start().write(words)
+}
+
+impl Pid {
+    // Writes the loop into words, reads them with the loop's own settings and starts them warm. It is the same loop then, with S for its E2.
+    pub fn restart(&mut self, words: &mut [u16]) -> Result<(), Refusal>
+        ensures answer { λ r. ⌜ r ≡ write-answer (now (words .entry)) ⌝ }
+        ensures words { λ _. ⌜ now (words .exit) ≡ written (now (self .entry) .fields) (now (words .entry)) ⌝ }
+        ensures fields { λ _. ⌜ now (self .exit) .fields ≡ now (self .entry) .fields ⌝ }
+        ensures e2 { λ _. ⌜ now (self .exit) .e2 ≡ restarted-e2 (now (self .entry) .fields) (now (self .entry) .e2) (now (words .entry)) ⌝ }
+    {
+        self.write(words)?;
+        *self = read(words, self.settings())?.warm_start();
+        Ok(())
+    }
+}
