@@ -2,6 +2,8 @@
 use mathlib.Core.Bool.{Bool, true, false, cond, _&&_}
 use mathlib.Core.List.{List, [], _∷_}
 use Prim.Native.Nat.{ℕ}
+use lib.Dec.{eqb}
+use lib.ListN.{length}
 use lib.Ieee.{Float}
 use Rattle.std.specs.Floats.{finite}
 use Rattle.std.specs.declared.result.Result.{Result}
@@ -9,10 +11,10 @@ use Rattle.std.specs.declared.result.Result.the-variants.{Ok, Err}
 use Rattle.reals.specs.Reals.{inside}
 use Rattle.terms.specs.declared.place.Place.{Place}
 use Rattle.terms.specs.declared.refusal.Cause.{Cause}
-use Rattle.terms.specs.declared.refusal.Cause.the-variants.{NotFinite, OutOfRange}
+use Rattle.terms.specs.declared.refusal.Cause.the-variants.{WrongLength, NotFinite, OutOfRange}
 use Rattle.terms.specs.declared.refusal.Refusal.{Refusal}
 use Rattle.terms.specs.Refusals.{refused}
-use Rattle.block.specs.Words.{real-at}
+use Rattle.block.specs.Words.{block-length, real-at}
 
 -- a test, with the cause of the refusal where it fails
 abbrev pub Check : Type 0
@@ -54,3 +56,11 @@ finite-field ws p = cond (finite (real-at ws p)) (Ok (real-at ws p)) (Err (NotFi
 abbrev pub at-top : {A : Type 0} → Result A Cause → Result A Refusal
 at-top (Ok x) = Ok x
 at-top (Err c) = Err (refused c)
+
+-- a block has 128 words
+abbrev pub length-checks : List ℕ → List Check
+length-checks ws = (eqb (length ws) block-length, WrongLength) ∷ []
+
+-- what writing answers: it refuses nothing but a wrong length
+abbrev pub write-answer : List ℕ → Result Unit Refusal
+write-answer ws = cond (eqb (length ws) block-length) (Ok tt) (Err (refused WrongLength))

@@ -1,3 +1,4 @@
 pub mod Words
+pub mod Bits
 pub mod Key
 pub mod Checks

@@ -1,4 +1,5 @@
 // The block: 128 device words that hold one loop.
+pub mod bits;
 pub mod checks;
 pub mod key;
 pub mod words;

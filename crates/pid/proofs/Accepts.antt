@@ -19,11 +19,11 @@ use Rattle.terms.specs.declared.refusal.Cause.{Cause}
 use Rattle.terms.specs.declared.refusal.Cause.the-variants.{ModeNotCarried}
 use Rattle.block.specs.Words.{word-at, real-at}
 use Rattle.block.specs.Key.{mode-in}
-use Rattle.block.specs.Checks.{passed, sound, _next_, all}
+use Rattle.block.specs.Checks.{length-checks, passed, sound, _next_, all}
 use Rattle.block.proofs.Passing.{both, split, not-ok, passed-next, given-next}
 use Rattle.pid.specs.declared.fields.Settings.{Settings}
 use Rattle.pid.specs.declared.fields.Fields.{Fields}
-use Rattle.pid.specs.Checks.{length-checks, settings-checks, signals-finite, bounds-finite, tuning-finite, past-finite, bounds-ranges, tuning-ranges, relation-checks, held, tuning-held, past-held, good}
+use Rattle.pid.specs.Checks.{settings-checks, signals-finite, bounds-finite, tuning-finite, past-finite, bounds-ranges, tuning-ranges, relation-checks, held, tuning-held, past-held, good}
 use Rattle.pid.specs.Reading.{bounds-of, tuning-of, past-of, signals-read, bounds-read, tuning-read, past-read, mode-read, carried, fields-with, checked-of}
 use Rattle.pid.proofs.Goodness.{Good, is-good}
 

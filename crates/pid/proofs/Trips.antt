@@ -23,7 +23,7 @@ use Rattle.terms.specs.declared.refusal.Cause.{Cause}
 use Rattle.reals.specs.Reals.{low-word, high-word}
 use Rattle.block.specs.Words.{word-at, real-at, fill, two-words}
 use Rattle.block.specs.Key.{key-valid, mode-in, mode-word}
-use Rattle.block.specs.Checks.{passed, sound, all, _next_, at-top}
+use Rattle.block.specs.Checks.{length-checks, write-answer, passed, sound, all, _next_, at-top}
 use Rattle.block.proofs.Passing.{both, split, spread, not-ok, step-passed, step-given}
 use Rattle.block.proofs.Filling.{look, Agrees, fill-agrees, join, all-agree, Sixteen, real-kept, word-kept, fill-length}
 use Rattle.block.proofs.Keys.{named-word, word-named}
@@ -32,9 +32,9 @@ use Rattle.pid.specs.declared.fields.Bounds.{Bounds}
 use Rattle.pid.specs.declared.fields.Tuning.{Tuning}
 use Rattle.pid.specs.declared.fields.Past.{Past}
 use Rattle.pid.specs.declared.fields.Fields.{Fields}
-use Rattle.pid.specs.Checks.{length-checks, settings-checks, signals-finite, bounds-finite, tuning-finite, past-finite, bounds-ranges, tuning-ranges, relation-checks, held, tuning-held, past-held, good}
+use Rattle.pid.specs.Checks.{settings-checks, signals-finite, bounds-finite, tuning-finite, past-finite, bounds-ranges, tuning-ranges, relation-checks, held, tuning-held, past-held, good}
 use Rattle.pid.specs.Reading.{bounds-of, tuning-of, past-of, mode-read, carried, fields-with, checked-of, read-of}
-use Rattle.pid.specs.Writing.{state-words, bounds-words, tuning-words, past-words, copy-words, named-words, filled, written, write-answer}
+use Rattle.pid.specs.Writing.{state-words, bounds-words, tuning-words, past-words, copy-words, named-words, filled, written}
 use Rattle.pid.specs.RoundTrips.{with-copy, same-block, answer-of}
 use Rattle.pid.proofs.Goodness.{Good, goodness}
 use Rattle.pid.proofs.Accepts.{fields-of, Accepted, accepted}

@@ -2,12 +2,10 @@
 use mathlib.Core.Bool.{Bool, true, false, _&&_}
 use mathlib.Core.List.{List, [], _∷_}
 use Prim.Native.Nat.{ℕ, max}
-use lib.Dec.{eqb, leb, ltb}
-use lib.ListN.{length}
+use lib.Dec.{leb, ltb}
 use lib.Ieee.{Float, binary32, lt, le, sub, div, toUnsigned, fits}
 use Rattle.terms.specs.declared.place.Place.the-variants as at
-use Rattle.terms.specs.declared.refusal.Cause.the-variants.{WrongLength, OutOfRange, LimitsCrossed, SpanTooSmall, PeriodTooLong}
-use Rattle.block.specs.Words.{block-length}
+use Rattle.terms.specs.declared.refusal.Cause.the-variants.{OutOfRange, LimitsCrossed, SpanTooSmall, PeriodTooLong}
 use Rattle.block.specs.Key.{key-valid}
 use Rattle.block.specs.Checks.{Check, is-finite, is-in, sound, all}
 use Rattle.pid.specs.declared.fields.Settings.{Settings}
@@ -20,9 +18,6 @@ use Rattle.reals.specs.Numbers.{zero, hundred, bottom, top, least, most, narrow
 -- N, the number of scans in a control period: the whole part of CT ÷ ΔT, or 1 where that is below 1
 abbrev pub periods : Float → Float → ℕ
 periods ct dt = max 1 (toUnsigned 16 (div binary32 ct dt))
-
-abbrev pub length-checks : List ℕ → List Check
-length-checks ws = (eqb (length ws) block-length, WrongLength) ∷ []
 
 -- each setting finite and then in its range; key and PN are whole numbers
 abbrev pub settings-checks : Settings → List Check

@@ -13,13 +13,13 @@ use Rattle.terms.specs.declared.refusal.Cause.the-variants.{ModeNotCarried}
 use Rattle.terms.specs.declared.refusal.Refusal.{Refusal}
 use Rattle.block.specs.Words.{word-at, real-at}
 use Rattle.block.specs.Key.{mode-in}
-use Rattle.block.specs.Checks.{passed, _next_, at-top}
+use Rattle.block.specs.Checks.{length-checks, passed, _next_, at-top}
 use Rattle.pid.specs.declared.fields.Settings.{Settings}
 use Rattle.pid.specs.declared.fields.Bounds.{Bounds}
 use Rattle.pid.specs.declared.fields.Tuning.{Tuning}
 use Rattle.pid.specs.declared.fields.Past.{Past}
 use Rattle.pid.specs.declared.fields.Fields.{Fields}
-use Rattle.pid.specs.Checks.{length-checks, settings-checks, signals-finite, bounds-finite, tuning-finite, past-finite, bounds-ranges, tuning-ranges, relation-checks}
+use Rattle.pid.specs.Checks.{settings-checks, signals-finite, bounds-finite, tuning-finite, past-finite, bounds-ranges, tuning-ranges, relation-checks}
 
 -- ---- the fields that the words hold
 

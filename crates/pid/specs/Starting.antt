@@ -1,9 +1,8 @@
 -- Starting a block that was read.
-use Prim.Native.Nat.{ℕ}
-use lib.Bits.{bitOr}
 use lib.Ieee.{Float, binary32, sub, mul, div}
 use Rattle.reals.specs.Numbers.{zero, hundred}
 use Rattle.reals.specs.Reals.{brought}
+use Rattle.block.specs.Bits.{with-trkf}
 use Rattle.pid.specs.declared.fields.Bounds.{Bounds}
 use Rattle.pid.specs.declared.fields.Past.{Past}
 use Rattle.pid.specs.declared.fields.Fields.{Fields}
@@ -15,10 +14,6 @@ percent-of sv b = brought (mul binary32 (div binary32 hundred (sub binary32 (b .
 -- a warm start and a cold start set E2 to S
 abbrev pub started-e2 : Fields → Float
 started-e2 f = percent-of (f .sv) (f .bounds)
-
--- TRKF, bit 13 of INH, set
-abbrev pub with-trkf : ℕ → ℕ
-with-trkf inh = bitOr inh 0x2000
 
 -- a cold start zeroes the past values of offsets 97 to 110 and sets TRKF; MVP stays
 abbrev pub cold-past : Past → Past

@@ -4,12 +4,7 @@ use mathlib.Core.List.{List, [], _∷_, _++_}
 use Prim.Native.Nat.{ℕ}
 use lib.Dec.{eqb}
 use lib.ListN.{length}
-use Rattle.std.specs.declared.result.Result.{Result}
-use Rattle.std.specs.declared.result.Result.the-variants.{Ok, Err}
 use Rattle.terms.specs.declared.place.Place.the-variants as at
-use Rattle.terms.specs.declared.refusal.Cause.the-variants.{WrongLength}
-use Rattle.terms.specs.declared.refusal.Refusal.{Refusal}
-use Rattle.terms.specs.Refusals.{refused}
 use Rattle.block.specs.Words.{block-length, fill, one-word, two-words}
 use Rattle.block.specs.Key.{mode-word}
 use Rattle.pid.specs.declared.fields.Bounds.{Bounds}
@@ -66,6 +61,3 @@ filled f ws = fill (copy-words (f .past)) (fill (named-words f) ws)
 -- words of a wrong length stay as found
 abbrev pub written : Fields → List ℕ → List ℕ
 written f ws = cond (eqb (length ws) block-length) (filled f ws) ws
-
-abbrev pub write-answer : List ℕ → Result Unit Refusal
-write-answer ws = cond (eqb (length ws) block-length) (Ok tt) (Err (refused WrongLength))

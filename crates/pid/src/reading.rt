@@ -1,6 +1,5 @@
 // Reading a block.
 ghost use mathlib.Core.Path.{_≡_};
-ghost use mathlib.Core.List.{[], _∷_};
 ghost use Rattle.block.specs.Checks.{passed};
 ghost use Rattle.pid.specs.Checks.{periods as periods-of, settings-checks, bounds-ranges, tuning-ranges, relation-checks};
 ghost use Rattle.pid.specs.Reading.{signals-read, bounds-read, tuning-read, past-read, checked-of, read-of};
@@ -11,9 +10,10 @@ use crate::fields::Past;
 use crate::fields::Settings;
 use crate::fields::Tuning;
 use crate::states::PidBlock;
+use block::checks::check_length;
 use block::checks::finite_at;
 use block::checks::in_range;
-use block::words::LENGTH;
+use block::checks::refuse_unless;
 use block::words::word_at;
 use reals::numbers::BOTTOM;
 use reals::numbers::HUNDRED;
@@ -33,12 +33,6 @@ pub fn periods(ct: f32, dt: f32) -> u16
     ensures { λ r. ⌜ r ≡ periods-of ct dt ⌝ }
 {
     saturating_f32_to_u16(ct / dt).max(1)
-}
-
-fn refuse_unless(test: bool, cause: Cause) -> Result<(), Cause>
-    ensures { λ r. ⌜ r ≡ passed ((test, cause) ∷ []) ⌝ }
-{
-    if test { Ok(()) } else { Err(cause) }
 }
 
 fn check_settings(s: Settings) -> Result<(), Cause>
@@ -135,7 +129,7 @@ fn read_past(words: &[u16]) -> Result<Past, Cause>
 fn checked(words: &[u16], settings: Settings) -> Result<Fields, Cause>
     ensures { λ r. ⌜ r ≡ checked-of (now (words .entry)) settings ⌝ }
 {
-    refuse_unless(words.len() == LENGTH, Cause::WrongLength)?;
+    check_length(words)?;
     check_settings(settings)?;
     let (mv, sv) = read_signals(words)?;
     let bounds = read_bounds(words)?;

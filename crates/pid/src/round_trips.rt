@@ -1,7 +1,8 @@
 // Round trips: a block through a loop, and a loop through a block.
 ghost use mathlib.Core.Path.{_≡_};
+ghost use Rattle.block.specs.Checks.{write-answer};
 ghost use Rattle.pid.specs.Reading.{read-of};
-ghost use Rattle.pid.specs.Writing.{written, write-answer};
+ghost use Rattle.pid.specs.Writing.{written};
 ghost use Rattle.pid.specs.RoundTrips.{same-block, answer-of, restarted-e2};
 use crate::fields::Settings;
 use crate::reading::read;

@@ -1,17 +1,15 @@
 // Starting a block that was read: cold or warm.
 ghost use mathlib.Core.Path.{_≡_};
-ghost use Rattle.pid.specs.Starting.{percent-of, started-e2, with-trkf, cold-past, cold-fields};
+ghost use Rattle.pid.specs.Starting.{percent-of, started-e2, cold-past, cold-fields};
 use crate::fields::Bounds;
 use crate::fields::Fields;
 use crate::fields::Past;
 use crate::states::Pid;
 use crate::states::PidBlock;
+use block::bits::with_trkf;
 use reals::numbers::HUNDRED;
 use reals::numbers::ZERO;
 use reals::order::bring;
-
-// TRKF, bit 13 of INH: the next driving scan takes MVP from MV.
-const TRKF: u16 = 0x2000;
 
 // S, the setpoint in percent.
 pub fn percent(sv: f32, bounds: Bounds) -> f32
@@ -37,7 +35,7 @@ fn cold_fields(f: Fields) -> Fields
     ensures { λ r. ⌜ r ≡ cold-fields f ⌝ }
 {
     Fields {
-        inh: f.inh | TRKF,
+        inh: with_trkf(f.inh),
         counter: 0,
         past: cold_past(f.past),
         ..f

@@ -1,18 +1,18 @@
 // Writing a loop into the words of a block.
 ghost use mathlib.Core.Path.{_≡_};
+ghost use Rattle.block.specs.Checks.{write-answer};
 ghost use Rattle.block.specs.Words.{fill};
-ghost use Rattle.pid.specs.Writing.{state-words, bounds-words, tuning-words, past-words, copy-words, filled, written, write-answer};
+ghost use Rattle.pid.specs.Writing.{state-words, bounds-words, tuning-words, past-words, copy-words, filled, written};
 use crate::fields::Bounds;
 use crate::fields::Fields;
 use crate::fields::Past;
 use crate::fields::Settings;
 use crate::fields::Tuning;
 use crate::states::Pid;
-use block::words::LENGTH;
+use block::checks::check_length;
 use block::words::put_real;
 use block::words::put_word;
 use terms::place::Place;
-use terms::refusal::Cause;
 use terms::refusal::Refusal;
 
 fn put_state(words: &mut [u16], f: Fields)
@@ -74,11 +74,8 @@ impl Pid {
         ensures answer { λ r. ⌜ r ≡ write-answer (now (words .entry)) ⌝ }
         ensures words { λ _. ⌜ now (words .exit) ≡ written (now (self .entry) .fields) (now (words .entry)) ⌝ }
     {
-        if words.len() != LENGTH {
-            return Err(Refusal {
-                cause: Cause::WrongLength,
-                level: 0,
-            });
+        if let Err(cause) = check_length(words) {
+            return Err(Refusal { cause, level: 0 });
         }
         put_fields(words, self.fields);
         Ok(())
