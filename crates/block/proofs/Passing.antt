@@ -1,14 +1,24 @@
 -- Checks that pass, and chains of steps that came to their end. Assumes nothing.
-use mathlib.Core.Path.{_≡_, refl, ap, _∙_}
+use mathlib.Core.Path.{_≡_, refl, sym, ap, _∙_}
 use mathlib.Core.Bool.{Bool, true, false, cond, _&&_}
 use mathlib.Core.List.{List, [], _∷_}
 use Prim.Native.Nat.{ℕ}
 use native.Mathlib.Omega.{arith}
-use lib.Dec.{T}
+use lib.Dec.{T, eqb, eqb→eq}
+use lib.ListN.{length}
+use lib.Ieee.{Float}
+use lib.Ieee.Bits.{is-true}
+use borrow.Author.Tests.{eq-eqb}
+use Rattle.std.specs.Floats.{finite}
 use Rattle.std.specs.declared.result.Result.{Result}
 use Rattle.std.specs.declared.result.Result.the-variants.{Ok, Err}
+use Rattle.terms.specs.declared.place.Place.{Place}
 use Rattle.terms.specs.declared.refusal.Cause.{Cause}
-use Rattle.block.specs.Checks.{Check, passed, sound, all, _next_}
+use Rattle.terms.specs.declared.refusal.Cause.the-variants.{WrongLength, NotFinite}
+use Rattle.terms.specs.declared.refusal.Refusal.{Refusal}
+use Rattle.terms.specs.Refusals.{refused}
+use Rattle.block.specs.Words.{block-length, real-at}
+use Rattle.block.specs.Checks.{Check, passed, sound, all, _next_, at-top, length-checks, write-answer, finite-field}
 
 pub both : (a b : Bool) → T a → T b → T (a && b)
 both true b t u = u
@@ -74,3 +84,36 @@ step-passed cs f t = rw (sound-passed cs t) refl
 
 pub step-given : {A B : Type 0} (cs : List Check) (a : A) (f : A → Result B Cause) → T (sound cs) → ((passed cs next λ _. Ok a) next f) ≡ f a
 step-given cs a f t = rw (sound-passed cs t) refl
+
+-- ---- a finite field
+
+pub field-next : {B : Type 0} (ws : List ℕ) (p : Place) (f : Float → Result B Cause) (b : B) → (finite-field ws p next f) ≡ Ok b → T (finite (real-at ws p)) × (f (real-at ws p) ≡ Ok b)
+field-next ws p f b e = go (finite (real-at ws p)) e
+  where
+    go : (c : Bool) → (cond c (Ok (real-at ws p)) (Err (NotFinite p)) next f) ≡ Ok b → T c × (f (real-at ws p) ≡ Ok b)
+    go true h = (tt, h)
+    go false h = absurd (not-ok (NotFinite p) b h)
+
+pub step-field : {B : Type 0} (ws : List ℕ) (p : Place) (f : Float → Result B Cause) → T (finite (real-at ws p)) → (finite-field ws p next f) ≡ f (real-at ws p)
+step-field ws p f t = rw (is-true (finite (real-at ws p)) t) refl
+
+-- ---- refusals of a call without levels, and words of the right length
+
+pub top-ok : {A : Type 0} (o : Result A Cause) (a : A) → at-top o ≡ Ok a → o ≡ Ok a
+top-ok (Ok h) a e = let q : h ≡ a = cc in ap Ok q
+top-ok (Err x) a e = absurd (not-ok (refused x) a e)
+
+pub is-whole : (ws : List ℕ) → T (sound (length-checks ws)) → length ws ≡ block-length
+is-whole ws t = eqb→eq (length ws) block-length (split (eqb (length ws) block-length) true t .0)
+
+pub whole-test : (ws : List ℕ) → length ws ≡ block-length → eqb (length ws) block-length ≡ true
+whole-test ws h = eq-eqb (length ws) block-length h
+
+-- writing answers Ok for 128 words only
+pub wrote : (ws : List ℕ) → Ok tt ≡ write-answer ws → eqb (length ws) block-length ≡ true
+wrote ws a = go (eqb (length ws) block-length) a
+  where
+    go : (b : Bool) → _≡_ {A = Result (Unit {0}) Refusal} (Ok tt) (cond b (Ok tt) (Err (refused WrongLength))) → b ≡ true
+    go true h = refl
+    go false h = absurd (not-ok (refused WrongLength) tt (sym h))
+

@@ -64,3 +64,8 @@ length-checks ws = (eqb (length ws) block-length, WrongLength) ∷ []
 -- what writing answers: it refuses nothing but a wrong length
 abbrev pub write-answer : List ℕ → Result Unit Refusal
 write-answer ws = cond (eqb (length ws) block-length) (Ok tt) (Err (refused WrongLength))
+
+-- what a call answers that has nothing to tell
+abbrev pub done : {A E : Type 0} → Result A E → Result Unit E
+done (Ok x) = Ok tt
+done (Err e) = Err e

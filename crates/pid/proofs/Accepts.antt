@@ -20,7 +20,7 @@ use Rattle.terms.specs.declared.refusal.Cause.the-variants.{ModeNotCarried}
 use Rattle.block.specs.Words.{word-at, real-at}
 use Rattle.block.specs.Key.{mode-in}
 use Rattle.block.specs.Checks.{length-checks, passed, sound, _next_, all}
-use Rattle.block.proofs.Passing.{both, split, not-ok, passed-next, given-next}
+use Rattle.block.proofs.Passing.{both, split, not-ok, passed-next, given-next, is-whole}
 use Rattle.pid.specs.declared.fields.Settings.{Settings}
 use Rattle.pid.specs.declared.fields.Fields.{Fields}
 use Rattle.pid.specs.Checks.{settings-checks, signals-finite, bounds-finite, tuning-finite, past-finite, bounds-ranges, tuning-ranges, relation-checks, held, tuning-held, past-held, good}
@@ -64,7 +64,7 @@ accepted ws st f e =
     let is : fields-of ws st (i .0) ≡ f = cc (l .1) in
     let m : i .0 ≡ f .mode = ap (λ (x : Fields). x .mode) is in
     record {
-      whole = eqb→eq (length ws) 128 (split (eqb (length ws) 128) true (a .0) .0);
+      whole = is-whole ws (a .0);
       settings = b .0;
       signals = c .0;
       bounds = d .0;

@@ -23,8 +23,8 @@ use Rattle.terms.specs.declared.refusal.Cause.{Cause}
 use Rattle.reals.specs.Reals.{low-word, high-word}
 use Rattle.block.specs.Words.{word-at, real-at, fill, two-words}
 use Rattle.block.specs.Key.{key-valid, mode-in, mode-word}
-use Rattle.block.specs.Checks.{length-checks, write-answer, passed, sound, all, _next_, at-top}
-use Rattle.block.proofs.Passing.{both, split, spread, not-ok, step-passed, step-given}
+use Rattle.block.specs.Checks.{length-checks, write-answer, done, passed, sound, all, _next_, at-top}
+use Rattle.block.proofs.Passing.{both, split, spread, step-passed, step-given, top-ok, whole-test, wrote}
 use Rattle.block.proofs.Filling.{look, Agrees, fill-agrees, join, all-agree, Sixteen, real-kept, word-kept, fill-length}
 use Rattle.block.proofs.Keys.{named-word, word-named}
 use Rattle.pid.specs.declared.fields.Settings.{Settings}
@@ -35,7 +35,7 @@ use Rattle.pid.specs.declared.fields.Fields.{Fields}
 use Rattle.pid.specs.Checks.{settings-checks, signals-finite, bounds-finite, tuning-finite, past-finite, bounds-ranges, tuning-ranges, relation-checks, held, tuning-held, past-held, good}
 use Rattle.pid.specs.Reading.{bounds-of, tuning-of, past-of, mode-read, carried, fields-with, checked-of, read-of}
 use Rattle.pid.specs.Writing.{state-words, bounds-words, tuning-words, past-words, copy-words, named-words, filled, written}
-use Rattle.pid.specs.RoundTrips.{with-copy, same-block, answer-of}
+use Rattle.pid.specs.RoundTrips.{with-copy, same-block}
 use Rattle.pid.proofs.Goodness.{Good, goodness}
 use Rattle.pid.proofs.Accepts.{fields-of, Accepted, accepted}
 
@@ -67,18 +67,11 @@ same-words ws st f b e =
 
 -- ---- the two, as the calls see them
 
-top-ok : (o : Result Fields Cause) (f : Fields) → at-top o ≡ Ok f → o ≡ Ok f
-top-ok (Ok h) f e = let q : h ≡ f = cc in ap Ok q
-top-ok (Err x) f e = absurd (not-ok (refused x) f e)
-
-long-enough : (ws : List ℕ) → length ws ≡ 128 → eqb (length ws) 128 ≡ true
-long-enough ws h = eq-eqb (length ws) 128 h
-
 pub block-trip : (ws : List ℕ) (st : Settings) (f : Fields) → Sixteen ws → Ok f ≡ read-of ws st
-    → (write-answer ws ≡ answer-of (read-of ws st)) × (written f ws ≡ same-block (read-of ws st) ws)
+    → (write-answer ws ≡ done (read-of ws st)) × (written f ws ≡ same-block (read-of ws st) ws)
 block-trip ws st f b e =
     let h = top-ok (checked-of ws st) f (sym e) in
-    let l = long-enough ws (accepted ws st f h .whole) in
+    let l = whole-test ws (accepted ws st f h .whole) in
     (rw (sym e, l) refl, rw (sym e, l) (same-words ws st f b h))
 
 -- ---- the same loop
@@ -180,13 +173,8 @@ module _ (f : Fields) (ws : List ℕ) (whole : length ws ≡ 128) (ok : T (good 
       ∙ step-passed (relation-checks (fields-of w st (f .mode))) _ (moved (λ x. T (sound (relation-checks x))) (g .related))
       ∙ ap Ok fields
 
--- writing answers Ok for 128 words only
-wrote : (b : Bool) → _≡_ {A = Result (Unit {0}) Refusal} (Ok tt) (cond b (Ok tt) (Err (refused WrongLength))) → b ≡ true
-wrote true a = refl
-wrote false a = absurd (not-ok (refused WrongLength) tt (sym a))
-
 -- what was written is read again as the same fields
 pub loop-trip : (f : Fields) (ws : List ℕ) → T (good f) → Ok tt ≡ write-answer ws → (eqb (length ws) 128 ≡ true) × (read-of (written f ws) (f .settings) ≡ Ok f)
 loop-trip f ws ok a =
-    let l = wrote (eqb (length ws) 128) a in
+    let l = wrote ws a in
     (l, rw (l, same-fields f ws (eqb→eq (length ws) 128 (subst T (sym l) tt)) ok) refl)

@@ -21,11 +21,6 @@ abbrev pub same-block : Result Fields Refusal → List ℕ → List ℕ
 same-block (Ok f) ws = with-copy ws
 same-block (Err e) ws = ws
 
--- the answer is reading's: nothing to tell, or its refusal
-abbrev pub answer-of : Result Fields Refusal → Result Unit Refusal
-answer-of (Ok f) = Ok tt
-answer-of (Err e) = Err e
-
 -- a loop that was written, read with its own settings and started warm has S for its E2; where the words are refused, it keeps its E2
 abbrev pub restarted-e2 : Fields → Float → List ℕ → Float
 restarted-e2 f e2 ws = cond (eqb (length ws) block-length) (started-e2 f) e2

@@ -1,9 +1,9 @@
 // Round trips: a block through a loop, and a loop through a block.
 ghost use mathlib.Core.Path.{_≡_};
-ghost use Rattle.block.specs.Checks.{write-answer};
+ghost use Rattle.block.specs.Checks.{write-answer, done};
 ghost use Rattle.pid.specs.Reading.{read-of};
 ghost use Rattle.pid.specs.Writing.{written};
-ghost use Rattle.pid.specs.RoundTrips.{same-block, answer-of, restarted-e2};
+ghost use Rattle.pid.specs.RoundTrips.{same-block, restarted-e2};
 use crate::fields::Settings;
 use crate::reading::read;
 use crate::states::Pid;
@@ -11,7 +11,7 @@ use terms::refusal::Refusal;
 
 // Reads a block, starts it warm and writes it back over itself. It is the same block then: only offset 16 is made a copy of the real at 110.
 pub fn write_back(words: &mut [u16], settings: Settings) -> Result<(), Refusal>
-    ensures answer { λ r. ⌜ r ≡ answer-of (read-of (now (words .entry)) settings) ⌝ }
+    ensures answer { λ r. ⌜ r ≡ done (read-of (now (words .entry)) settings) ⌝ }
     ensures words { λ _. ⌜ now (words .exit) ≡ same-block (read-of (now (words .entry)) settings) (now (words .entry)) ⌝ }
 {
     let block = read(words, settings)?;
