@@ -6,8 +6,9 @@ use mathlib.Core.List.{List, [], _∷_, _++_}
 use Prim.Native.Nat.{ℕ, _+_, _<_, _^_}
 use native.Mathlib.Omega.{arith}
 use lib.Dec.{T, eqb, eqb→eq}
-use lib.ListN.{length, getD, set, length-set}
-use lib.Seq.{getD-set-same, getD-set-other, set-getD}
+use native.Mathlib.Numerals.{add-one}
+use lib.ListN.{length, getD, set, drop, length-set}
+use lib.Seq.{getD-set-same, getD-set-other, set-getD, drop-cons, drop-length}
 use lib.Ieee.{Float, binary32, fits}
 use borrow.Author.Tests.{ne-eqb, eq-eqb}
 use Rattle.std.specs.Floats.{finite}
@@ -88,3 +89,12 @@ all-agree ws b (p ∷ ps) t =
     let s = split (finite (real-at ws p)) (sound (finite-all ws ps)) t in
     let n = place-number p in
     (low-back (getD ws n 0) (getD ws (n + 1) 0) (b n) (b (n + 1)) (s .0), (high-back (getD ws n 0) (getD ws (n + 1) 0) (b n) (b (n + 1)) (s .0), all-agree ws b ps (s .1)))
+
+-- ---- one entry of a table after another
+
+pub fill-step : (t : List (ℕ × ℕ)) (i : ℕ) (ws vs : List ℕ) → i < length t → vs ≡ set ws (getD t i (0, 0) .0) (getD t i (0, 0) .1) → fill (drop (i + 1) t) vs ≡ fill (drop i t) ws
+fill-step t i ws vs h e =
+    (λ k. fill (drop (add-one i k) t) (e k)) ∙ ap (λ (r : List (ℕ × ℕ)). fill r ws) (sym (drop-cons t i (0, 0) h))
+
+pub fill-end : (t : List (ℕ × ℕ)) (i : ℕ) (ws : List ℕ) → i ≡ length t → fill (drop i t) ws ≡ ws
+fill-end t i ws e = ap (λ (n : ℕ). fill (drop n t) ws) e ∙ ap (λ (r : List (ℕ × ℕ)). fill r ws) (drop-length t)
