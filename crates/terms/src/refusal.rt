@@ -4,6 +4,7 @@ ghost use Rattle.terms.specs.Refusals.{cause-number, cause-place};
 use crate::place::Place;
 use crate::place::PlaceDebug;
 use crate::place::PlacePartialEq;
+use std::fmt;
 
 // Why a call is refused.
 #[derive(Clone, Copy, Debug, PartialEq, Eq, Drop)]
@@ -58,4 +59,29 @@ impl Cause {
 pub struct Refusal {
     pub cause: Cause,
     pub level: u64,
+}
+
+impl Cause {
+    // The cause in words.
+    fn text(self) -> &'static str {
+        match self {
+            Cause::WrongLength => "not 128 words",
+            Cause::NotFinite(_) => "a real that is not finite",
+            Cause::OutOfRange(_) => "a value outside its range",
+            Cause::ModeNotCarried => "MODE names no mode of this loop",
+            Cause::LimitsCrossed => "ML is above MH",
+            Cause::SpanTooSmall => "RH - RL is below 1/1024",
+            Cause::PeriodTooLong => "CT / dT is above 32767",
+        }
+    }
+}
+
+pub impl fmt::Display for Refusal as RefusalDisplay {
+    fn fmt<W: fmt::Write>(&self, f: &mut fmt::Formatter<W>) -> fmt::Result {
+        let number = self.cause.number();
+        let place = self.cause.place();
+        let level = self.level;
+        let text = self.cause.text();
+        write!(f, "refused by {number}, level {level}, place {place}: {text}")
+    }
 }
