@@ -2,4 +2,5 @@
 pub mod bits;
 pub mod checks;
 pub mod key;
+pub mod start;
 pub mod words;

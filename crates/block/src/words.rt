@@ -57,11 +57,17 @@ pub fn put_real(words: &mut [u16], place: Place, x: f32)
     put(words, offset + 1, halves.high);
 }
 
+fn put_entry(words: &mut [u16], offset: u16, word: u16)
+    ensures { λ _. ⌜ now (words .exit) ≡ set (now (words .entry)) offset word ⌝ }
+{
+    put(words, usize::from(offset), word);
+}
+
 // Fills words by a table of offsets and words, in its order; an offset past the end fills none.
 pub fn fill_words(words: &mut [u16], table: &[(u16, u16)])
     ensures { λ _. ⌜ now (words .exit) ≡ fill (now (table .entry)) (now (words .entry)) ⌝ }
 {
     for (offset, word) in table {
-        put(words, usize::from(*offset), *word);
+        put_entry(words, *offset, *word);
     }
 }

@@ -13,9 +13,11 @@ use Rattle.reals.specs.Reals.{brought, inside}
 use Rattle.reals.proofs.OrderLaws.{bring-low, bring-high}
 use Rattle.reals.proofs.Finite.{sub-finite, over-span-finite, mul-number}
 use Rattle.block.proofs.Passing.{both, split}
+use Rattle.block.specs.declared.start.Start.{Start}
+use Rattle.block.specs.declared.start.Start.the-variants.{Cold, Warm}
 use Rattle.pid.specs.declared.fields.Fields.{Fields}
 use Rattle.pid.specs.Checks.{periods, good, good-e2}
-use Rattle.pid.specs.Starting.{percent-of, started-e2, cold-fields}
+use Rattle.pid.specs.Starting.{percent-of, cold-fields, started-fields}
 use Rattle.pid.proofs.Goodness.{Good, goodness, is-good, range}
 
 -- ---- S
@@ -63,7 +65,7 @@ hundred-top : T (le hundred top)
 hundred-top = unfold le in unfold ofBits in tt
 
 -- S lies in 0..100
-pub percent-in : (f : Fields) → Good f → T (le zero (started-e2 f)) × T (le (started-e2 f) hundred)
+pub percent-in : (f : Fields) → Good f → T (le zero (percent-of f)) × T (le (percent-of f) hundred)
 percent-in f g =
     let m = measuring f g in
     let rl = f .bounds .rl in
@@ -74,10 +76,10 @@ percent-in f g =
     let x = mul binary32 (div binary32 hundred span) above in
     (bring-low x zero hundred n zero-hundred, bring-high x zero hundred n zero-hundred)
 
-pub good-percent : (f : Fields) → T (good f) → T (good-e2 (started-e2 f))
+pub good-percent : (f : Fields) → T (good f) → T (good-e2 (percent-of f))
 unfolding good-e2
 good-percent f t =
-    let s = started-e2 f in
+    let s = percent-of f in
     let p = percent-in f (goodness f t) in
     both (le bottom s) _ (le-trans bottom zero s bottom-zero (p .0))
     (both (le s top) _ (le-trans s hundred top (p .1) hundred-top)
@@ -94,7 +96,7 @@ zero-held = ofBits-fits binary32 0
 some-scan : (ct dt : Float) → T (ltb 0 (periods ct dt))
 some-scan ct dt = lt→ltb 0 (periods ct dt) (omega arith)
 
-pub good-cold : (f : Fields) → T (good f) → T (good (cold-fields f))
+good-cold : (f : Fields) → T (good f) → T (good (cold-fields f))
 good-cold f t =
     let g = goodness f t in
     let past = split (finite (f .past .mvp)) _ (g .past) in
@@ -120,3 +122,7 @@ good-cold f t =
       tuning-kept = g .tuning-kept;
       past-kept = both _ _ (kept .0) (both _ _ h (both _ _ h (both _ _ h (both _ _ h (both _ true h tt)))));
     }
+
+pub good-started : (s : Start) (f : Fields) → T (good f) → T (good (started-fields s f))
+good-started Cold f t = good-cold f t
+good-started Warm f t = t

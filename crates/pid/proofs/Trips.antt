@@ -24,7 +24,7 @@ use Rattle.reals.specs.Reals.{low-word, high-word}
 use Rattle.block.specs.Words.{word-at, real-at, fill, two-words}
 use Rattle.block.specs.Key.{key-valid, mode-in, mode-word}
 use Rattle.block.specs.Checks.{length-checks, write-answer, done, passed, sound, all, _next_, at-top}
-use Rattle.block.proofs.Passing.{both, split, spread, step-passed, step-given, top-ok, whole-test, wrote}
+use Rattle.block.proofs.Passing.{both, split, spread, not-ok, step-passed, step-given, top-ok, whole-test, wrote}
 use Rattle.block.proofs.Filling.{look, Agrees, fill-agrees, join, all-agree, Sixteen, real-kept, word-kept, fill-length}
 use Rattle.block.proofs.Keys.{named-word, word-named}
 use Rattle.pid.specs.declared.fields.Settings.{Settings}
@@ -34,6 +34,8 @@ use Rattle.pid.specs.declared.fields.Past.{Past}
 use Rattle.pid.specs.declared.fields.Fields.{Fields}
 use Rattle.pid.specs.Checks.{settings-checks, signals-finite, bounds-finite, tuning-finite, past-finite, bounds-ranges, tuning-ranges, relation-checks, held, tuning-held, past-held, good}
 use Rattle.pid.specs.Reading.{bounds-of, tuning-of, past-of, mode-read, carried, fields-with, checked-of, read-of}
+use Rattle.pid.specs.Starting.{percent-of}
+use Rattle.pid.specs.Blocks.{warm-of}
 use Rattle.pid.specs.Writing.{state-words, bounds-words, tuning-words, past-words, copy-words, named-words, filled, written}
 use Rattle.pid.specs.RoundTrips.{with-copy, same-block}
 use Rattle.pid.proofs.Goodness.{Good, goodness}
@@ -66,6 +68,18 @@ same-words ws st f b e =
     (ap (λ (v : List ℕ). fill (copy-words (g .past)) v) (fill-agrees (named-words g) ws (agreed ws st f b a)) ∙ (λ i. set (set ws 16 (last .0 i)) 17 (last .1 .0 i)))
 
 -- ---- the two, as the calls see them
+
+-- a loop that was read and started warm has the fields that were read, and S for its E2
+pub warm-fields : (o : Result Fields Refusal) (f : Fields) (e2 : Float) → Ok (f, e2) ≡ warm-of o → (Ok f ≡ o) × (e2 ≡ percent-of f)
+warm-fields (Ok h) f e2 e =
+    let q : _≡_ {A = Fields × Float} (f, e2) (h, percent-of h) = cc in
+    let a : f ≡ h = ap (λ (x : Fields × Float). x .0) q in
+    (ap Ok a, ap (λ (x : Fields × Float). x .1) q ∙ ap percent-of (sym a))
+warm-fields (Err x) f e2 e = absurd (not-ok x (f, e2) (sym e))
+
+pub warm-refused : (o : Result Fields Refusal) (x : Refusal) → Err x ≡ warm-of o → Err x ≡ o
+warm-refused (Ok h) x e = absurd (not-ok x (h, percent-of h) e)
+warm-refused (Err y) x e = let q : x ≡ y = cc in ap Err q
 
 pub block-trip : (ws : List ℕ) (st : Settings) (f : Fields) → Sixteen ws → Ok f ≡ read-of ws st
     → (write-answer ws ≡ done (read-of ws st)) × (written f ws ≡ same-block (read-of ws st) ws)

@@ -1,6 +1,6 @@
 pub mod Checks
 pub mod Reading
-pub mod Blocks
 pub mod Starting
+pub mod Blocks
 pub mod Writing
 pub mod RoundTrips

@@ -10,7 +10,7 @@ use Rattle.std.specs.declared.result.Result.the-variants.{Ok, Err}
 use Rattle.terms.specs.declared.refusal.Refusal.{Refusal}
 use Rattle.block.specs.Words.{block-length}
 use Rattle.pid.specs.declared.fields.Fields.{Fields}
-use Rattle.pid.specs.Starting.{started-e2}
+use Rattle.pid.specs.Starting.{percent-of}
 
 -- the same words, save that offset 16 holds a copy of the real at offset 110
 abbrev pub with-copy : List ℕ → List ℕ
@@ -23,4 +23,4 @@ same-block (Err e) ws = ws
 
 -- a loop that was written, read with its own settings and started warm has S for its E2; where the words are refused, it keeps its E2
 abbrev pub restarted-e2 : Fields → Float → List ℕ → Float
-restarted-e2 f e2 ws = cond (eqb (length ws) block-length) (started-e2 f) e2
+restarted-e2 f e2 ws = cond (eqb (length ws) block-length) (percent-of f) e2

@@ -1,7 +1,9 @@
 // The PID loop: read from a block, started, and written back.
+pub mod checks;
 pub mod fields;
 pub mod reading;
 pub mod round_trips;
+pub mod setpoint;
 pub mod starting;
 pub mod states;
 pub mod writing;

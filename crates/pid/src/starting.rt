@@ -1,22 +1,14 @@
 // Starting a block that was read: cold or warm.
 ghost use mathlib.Core.Path.{_≡_};
-ghost use Rattle.pid.specs.Starting.{percent-of, started-e2, cold-past, cold-fields};
-use crate::fields::Bounds;
+ghost use Rattle.pid.specs.Starting.{percent-of, cold-past, cold-fields, started-fields};
 use crate::fields::Fields;
 use crate::fields::Past;
+use crate::setpoint::percent_at;
 use crate::states::Pid;
 use crate::states::PidBlock;
 use block::bits::with_trkf;
-use reals::numbers::HUNDRED;
+use block::start::Start;
 use reals::numbers::ZERO;
-use reals::order::bring;
-
-// S, the setpoint in percent.
-pub fn percent(sv: f32, bounds: Bounds) -> f32
-    ensures { λ r. ⌜ r ≡ percent-of sv bounds ⌝ }
-{
-    bring((HUNDRED / (bounds.rh - bounds.rl)) * (sv - bounds.rl), ZERO, HUNDRED)
-}
 
 fn cold_past(past: Past) -> Past
     ensures { λ r. ⌜ r ≡ cold-past past ⌝ }
@@ -31,14 +23,29 @@ fn cold_past(past: Past) -> Past
     }
 }
 
-fn cold_fields(f: Fields) -> Fields
-    ensures { λ r. ⌜ r ≡ cold-fields f ⌝ }
+fn started_fields(start: Start, f: Fields) -> Fields
+    ensures { λ r. ⌜ r ≡ started-fields start f ⌝ }
 {
-    Fields {
-        inh: with_trkf(f.inh),
-        counter: 0,
-        past: cold_past(f.past),
-        ..f
+    match start {
+        Start::Cold => Fields {
+            inh: with_trkf(f.inh),
+            counter: 0,
+            past: cold_past(f.past),
+            ..f
+        },
+        Start::Warm => f,
+    }
+}
+
+// The loop of a block. Its E2 is S.
+fn started(block: PidBlock, start: Start) -> Pid
+    ensures fields { λ r. ⌜ r .fields ≡ started-fields start (block .fields) ⌝ }
+    ensures e2 { λ r. ⌜ r .e2 ≡ percent-of (block .fields) ⌝ }
+{
+    let f = block.fields;
+    Pid {
+        fields: started_fields(start, f),
+        e2: percent_at(f.sv, f.bounds),
     }
 }
 
@@ -46,24 +53,16 @@ impl PidBlock {
     // Starts the loop with its past values at zero and TRKF set.
     pub fn cold_start(self) -> Pid
         ensures fields { λ r. ⌜ r .fields ≡ cold-fields (self .fields) ⌝ }
-        ensures e2 { λ r. ⌜ r .e2 ≡ started-e2 (self .fields) ⌝ }
+        ensures e2 { λ r. ⌜ r .e2 ≡ percent-of (self .fields) ⌝ }
     {
-        let f = self.fields;
-        Pid {
-            fields: cold_fields(f),
-            e2: percent(f.sv, f.bounds),
-        }
+        started(self, Start::Cold)
     }
 
-    // Starts the loop with its past values as they were read.
+    // Starts the loop as it was read.
     pub fn warm_start(self) -> Pid
         ensures fields { λ r. ⌜ r .fields ≡ self .fields ⌝ }
-        ensures e2 { λ r. ⌜ r .e2 ≡ started-e2 (self .fields) ⌝ }
+        ensures e2 { λ r. ⌜ r .e2 ≡ percent-of (self .fields) ⌝ }
     {
-        let f = self.fields;
-        Pid {
-            fields: f,
-            e2: percent(f.sv, f.bounds),
-        }
+        started(self, Start::Warm)
     }
 }

@@ -8,8 +8,8 @@ pub loop-offset-again : need.loop-offset-again
 loop-offset-again c =
     let t = c .args .table .now in
     let i = c .loop-offset .offset-index in
-    let put : c .put .last .words ≡ set (c .loop-offset .words) (getD t i (0, 0) .0) (getD t i (0, 0) .1) = cc in
-    fill-step t i (c .loop-offset .words) (c .put .last .words) (c .loop-offset-test .taken) put ∙ c .loop-offset .inv
+    let put : c .put-entry .last .words ≡ set (c .loop-offset .words) (getD t i (0, 0) .0) (getD t i (0, 0) .1) = cc in
+    fill-step t i (c .loop-offset .words) (c .put-entry .last .words) (c .loop-offset-test .taken) put ∙ c .loop-offset .inv
 
 pub returns : need.returns
 returns c =

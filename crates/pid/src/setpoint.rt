@@ -1,0 +1,31 @@
+// The setpoint in percent.
+ghost use mathlib.Core.Path.{_≡_};
+ghost use Rattle.pid.specs.Starting.{percent-at, percent-of};
+use crate::fields::Bounds;
+use crate::states::Pid;
+use reals::numbers::HUNDRED;
+use reals::numbers::ZERO;
+use reals::order::bring;
+
+// S = (100 ÷ (RH − RL)) × (SV − RL), brought into 0..100.
+pub(crate) fn percent_at(sv: f32, bounds: Bounds) -> f32
+    ensures { λ r. ⌜ r ≡ percent-at sv bounds ⌝ }
+{
+    bring((HUNDRED / (bounds.rh - bounds.rl)) * (sv - bounds.rl), ZERO, HUNDRED)
+}
+
+impl Pid {
+    // S, the setpoint in percent.
+    pub fn percent(&self) -> f32
+        ensures { λ r. ⌜ r ≡ percent-of (now (self .entry) .fields) ⌝ }
+    {
+        percent_at(self.fields.sv, self.fields.bounds)
+    }
+
+    // E2, the setpoint in percent that the loop last worked with.
+    pub fn e2(&self) -> f32
+        ensures { λ r. ⌜ r ≡ now (self .entry) .e2 ⌝ }
+    {
+        self.e2
+    }
+}
