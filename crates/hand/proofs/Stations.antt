@@ -14,6 +14,8 @@ use Rattle.terms.specs.declared.mode.Mode.the-variants.{Man}
 use Rattle.terms.specs.declared.place.Place.{Place}
 use Rattle.terms.specs.declared.place.Place.the-variants as at
 use Rattle.block.specs.declared.key.ModeKey.{ModeKey}
+use Rattle.block.specs.declared.start.Start.{Start}
+use Rattle.block.specs.declared.start.Start.the-variants.{Cold, Warm}
 use Rattle.block.specs.Words.{word-at, real-at, fill}
 use Rattle.block.specs.Key.{mode-word}
 use Rattle.block.specs.Checks.{sound, length-checks, write-answer, done, is-finite}
@@ -22,7 +24,7 @@ use Rattle.block.proofs.Filling.{Agrees, fill-agrees, all-agree, Sixteen, real-
 use Rattle.hand.specs.declared.fields.Fields.{Fields}
 use Rattle.hand.specs.Checks.{key-checks, output-checks, good}
 use Rattle.hand.specs.Reading.{fields-with, mode-checks, checked-of, read-of}
-use Rattle.hand.specs.Starting.{cold-fields}
+use Rattle.hand.specs.Starting.{cold-fields, started-fields}
 use Rattle.hand.specs.Writing.{named-words, written}
 
 -- ---- fields that pass every check
@@ -45,8 +47,9 @@ is-good : (f : Fields) → Good f → T (good f)
 unfolding good
 is-good f g = both _ _ (g .key) (both _ _ (g .real) (both _ _ (g .output) (g .kept)))
 
-pub good-cold : (f : Fields) → T (good f) → T (good (cold-fields f))
-good-cold f t = let g = goodness f t in is-good (cold-fields f) record { key = g .key; real = g .real; output = g .output; kept = g .kept }
+pub good-started : (s : Start) (f : Fields) → T (good f) → T (good (started-fields s f))
+good-started Cold f t = let g = goodness f t in is-good (cold-fields f) record { key = g .key; real = g .real; output = g .output; kept = g .kept }
+good-started Warm f t = t
 
 -- ---- words that reading accepts
 

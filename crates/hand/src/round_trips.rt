@@ -2,19 +2,29 @@
 ghost use mathlib.Core.Path.{_≡_};
 ghost use Rattle.block.specs.Checks.{write-answer, done};
 ghost use Rattle.hand.specs.Reading.{read-of};
+ghost use Rattle.hand.specs.Blocks.{as-loop};
 ghost use Rattle.hand.specs.Writing.{written};
 use crate::reading::read;
 use crate::states::Hand;
 use block::key::ModeKey;
 use terms::refusal::Refusal;
 
+// The station of a block, started warm.
+fn read_warm(words: &[u16], key: ModeKey) -> Result<Hand, Refusal>
+    ensures { λ r. ⌜ as-loop r ≡ read-of (now (words .entry)) key ⌝ }
+{
+    match read(words, key) {
+        Ok(block) => Ok(block.warm_start()),
+        Err(refusal) => Err(refusal),
+    }
+}
+
 // Reads a block, starts it warm and writes it back over itself. It is the same block then, word by word.
 pub fn write_back(words: &mut [u16], key: ModeKey) -> Result<(), Refusal>
     ensures answer { λ r. ⌜ r ≡ done (read-of (now (words .entry)) key) ⌝ }
     ensures words { λ _. ⌜ now (words .exit) ≡ now (words .entry) ⌝ }
 {
-    let block = read(words, key)?;
-    block.warm_start().write(words)
+    read_warm(words, key)?.write(words)
 }
 
 impl Hand {
@@ -25,7 +35,7 @@ impl Hand {
         ensures fields { λ _. ⌜ now (self .exit) .fields ≡ now (self .entry) .fields ⌝ }
     {
         self.write(words)?;
-        *self = read(words, self.key())?.warm_start();
+        *self = read_warm(words, self.key())?;
         Ok(())
     }
 }

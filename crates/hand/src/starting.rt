@@ -1,20 +1,30 @@
 // Starting a block that was read: cold or warm.
 ghost use mathlib.Core.Path.{_≡_};
-ghost use Rattle.hand.specs.Starting.{cold-fields, percent-of};
+ghost use Rattle.hand.specs.Starting.{cold-fields, started-fields};
 use crate::fields::Fields;
 use crate::states::Hand;
 use crate::states::HandBlock;
 use block::bits::with_trkf;
-use reals::numbers::HUNDRED;
-use reals::numbers::ZERO;
-use reals::order::bring;
+use block::start::Start;
 
-fn cold_fields(f: Fields) -> Fields
-    ensures { λ r. ⌜ r ≡ cold-fields f ⌝ }
+fn started_fields(start: Start, f: Fields) -> Fields
+    ensures { λ r. ⌜ r ≡ started-fields start f ⌝ }
 {
-    Fields {
-        inh: with_trkf(f.inh),
-        ..f
+    match start {
+        Start::Cold => Fields {
+            inh: with_trkf(f.inh),
+            ..f
+        },
+        Start::Warm => f,
+    }
+}
+
+// The station of a block.
+fn started(block: HandBlock, start: Start) -> Hand
+    ensures { λ r. ⌜ r .fields ≡ started-fields start (block .fields) ⌝ }
+{
+    Hand {
+        fields: started_fields(start, block.fields),
     }
 }
 
@@ -23,26 +33,13 @@ impl HandBlock {
     pub fn cold_start(self) -> Hand
         ensures { λ r. ⌜ r .fields ≡ cold-fields (self .fields) ⌝ }
     {
-        Hand {
-            fields: cold_fields(self.fields),
-        }
+        started(self, Start::Cold)
     }
 
     // Starts the station as it was read.
     pub fn warm_start(self) -> Hand
         ensures { λ r. ⌜ r .fields ≡ self .fields ⌝ }
     {
-        Hand {
-            fields: self.fields,
-        }
-    }
-}
-
-impl Hand {
-    // S, which is E2 too: MV brought into 0..100.
-    pub fn percent(&self) -> f32
-        ensures { λ r. ⌜ r ≡ percent-of (now (self .entry) .fields) ⌝ }
-    {
-        bring(self.fields.mv, ZERO, HUNDRED)
+        started(self, Start::Warm)
     }
 }

@@ -4,13 +4,13 @@ use Rattle.hand.specs.Reading.{read-of}
 use Rattle.hand.proofs.Stations.{loop-trip}
 use Rattle.hand.proofs.states.Hand.restart.Needs as need
 
-pub returns-in-Break-read : need.returns-in-Break-read
-returns-in-Break-read c =
+pub returns-in-Break-self : need.returns-in-Break-self
+returns-in-Break-self c =
     let k = c .args .self .now in
     let t = loop-trip (k .fields) (c .args .words .now) (k .ok) (c .in-Continue-write .ensures tt .answer) in
     let w = c .write .ensures .words in
     let s = c .key .ensures in
-    absurd (not-ok (c .in-Break-read .field-0 .0) (k .fields) (c .in-Break-read .ensures tt ∙ (λ i. read-of (w i) (s i)) ∙ t))
+    absurd (not-ok (c .in-Break-self .field-0 .0) (k .fields) (c .in-Break-self .ensures tt ∙ (λ i. read-of (w i) (s i)) ∙ t))
 
 pub returns : need.returns
 returns c =
@@ -18,6 +18,6 @@ returns c =
     let t = loop-trip (k .fields) (c .args .words .now) (k .ok) (c .in-Continue-write .ensures tt .answer) in
     let w = c .write .ensures .words in
     let s = c .key .ensures in
-    let e = c .in-Continue-read .ensures tt ∙ (λ i. read-of (w i) (s i)) ∙ t in
-    let same : c .in-Continue-read .field-0 .fields ≡ k .fields = cc e in
-    record { answer = c .in-Continue-write .ensures tt .answer; words = w; fields = c .warm-start .ensures ∙ same }
+    let e = c .in-Continue-self .ensures tt ∙ (λ i. read-of (w i) (s i)) ∙ t in
+    let same : c .in-Continue-self .field-0 .fields ≡ k .fields = cc e in
+    record { answer = c .in-Continue-write .ensures tt .answer; words = w; fields = same }
