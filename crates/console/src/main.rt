@@ -3,7 +3,7 @@ mod fields;
 mod stations;
 
 use fields::show_fields;
-use pid::fields::Settings;
+use pid_fields::fields::Settings;
 use pid::reading::read;
 use pid::round_trips::write_back;
 use standard::SETTINGS;

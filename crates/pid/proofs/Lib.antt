@@ -1,4 +1,2 @@
-pub mod Goodness
 pub mod Starts
-pub mod Accepts
 pub mod Trips

@@ -15,10 +15,10 @@ use Rattle.reals.proofs.Finite.{sub-finite, over-span-finite, mul-number}
 use Rattle.block.proofs.Passing.{both, split}
 use Rattle.block.specs.declared.start.Start.{Start}
 use Rattle.block.specs.declared.start.Start.the-variants.{Cold, Warm}
-use Rattle.pid.specs.declared.fields.Fields.{Fields}
-use Rattle.pid.specs.Checks.{periods, good, good-e2}
+use Rattle.pid_fields.specs.declared.fields.Fields.{Fields}
+use Rattle.pid_fields.specs.Checks.{periods, good, good-e2}
 use Rattle.pid.specs.Starting.{percent-of, cold-fields, started-fields}
-use Rattle.pid.proofs.Goodness.{Good, goodness, is-good, range}
+use Rattle.pid_fields.proofs.Goodness.{Good, goodness, is-good, range}
 
 -- ---- S
 

@@ -3,7 +3,7 @@ use lib.Ieee.{Float}
 use Rattle.std.specs.declared.result.Result.{Result}
 use Rattle.std.specs.declared.result.Result.the-variants.{Ok, Err}
 use Rattle.terms.specs.declared.refusal.Refusal.{Refusal}
-use Rattle.pid.specs.declared.fields.Fields.{Fields}
+use Rattle.pid_fields.specs.declared.fields.Fields.{Fields}
 use Rattle.pid.specs.declared.states.PidBlock.{PidBlock}
 use Rattle.pid.specs.declared.states.Pid.{Pid}
 use Rattle.pid.specs.Starting.{percent-of}

@@ -1,4 +1,3 @@
-pub mod Checks
 pub mod Reading
 pub mod Starting
 pub mod Blocks

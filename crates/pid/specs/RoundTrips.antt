@@ -3,18 +3,15 @@ use mathlib.Core.Bool.{cond}
 use mathlib.Core.List.{List}
 use Prim.Native.Nat.{ℕ}
 use lib.Dec.{eqb}
-use lib.ListN.{length, getD, set}
+use lib.ListN.{length}
 use lib.Ieee.{Float}
 use Rattle.std.specs.declared.result.Result.{Result}
 use Rattle.std.specs.declared.result.Result.the-variants.{Ok, Err}
 use Rattle.terms.specs.declared.refusal.Refusal.{Refusal}
 use Rattle.block.specs.Words.{block-length}
-use Rattle.pid.specs.declared.fields.Fields.{Fields}
+use Rattle.pid_fields.specs.declared.fields.Fields.{Fields}
+use Rattle.pid_fields.specs.Writing.{with-copy}
 use Rattle.pid.specs.Starting.{percent-of}
-
--- the same words, save that offset 16 holds a copy of the real at offset 110
-abbrev pub with-copy : List ℕ → List ℕ
-with-copy ws = set (set ws 16 (getD ws 110 0)) 17 (getD ws 111 0)
 
 -- words that were read, started warm and written back over themselves are the same block; refused, they stay as found
 abbrev pub same-block : Result Fields Refusal → List ℕ → List ℕ

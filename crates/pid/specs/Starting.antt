@@ -5,9 +5,9 @@ use Rattle.reals.specs.Reals.{brought}
 use Rattle.block.specs.Bits.{with-trkf}
 use Rattle.block.specs.declared.start.Start.{Start}
 use Rattle.block.specs.declared.start.Start.the-variants.{Cold, Warm}
-use Rattle.pid.specs.declared.fields.Bounds.{Bounds}
-use Rattle.pid.specs.declared.fields.Past.{Past}
-use Rattle.pid.specs.declared.fields.Fields.{Fields}
+use Rattle.pid_fields.specs.declared.fields.Bounds.{Bounds}
+use Rattle.pid_fields.specs.declared.fields.Past.{Past}
+use Rattle.pid_fields.specs.declared.fields.Fields.{Fields}
 
 -- S, the setpoint in percent: S = (100 ÷ (RH − RL)) × (SV − RL), brought into 0..100
 abbrev pub percent-at : Float → Bounds → Float

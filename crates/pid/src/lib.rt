@@ -1,6 +1,4 @@
 // The PID loop: read from a block, started, and written back.
-pub mod checks;
-pub mod fields;
 pub mod reading;
 pub mod round_trips;
 pub mod setpoint;

@@ -5,7 +5,7 @@ ghost use Rattle.pid.specs.Reading.{read-of};
 ghost use Rattle.pid.specs.Writing.{written};
 ghost use Rattle.pid.specs.Blocks.{as-loop, warm-of};
 ghost use Rattle.pid.specs.RoundTrips.{same-block, restarted-e2};
-use crate::fields::Settings;
+use pid_fields::fields::Settings;
 use crate::reading::read;
 use crate::states::Pid;
 use terms::refusal::Refusal;

@@ -1,7 +1,7 @@
 // The setpoint in percent.
 ghost use mathlib.Core.Path.{_≡_};
 ghost use Rattle.pid.specs.Starting.{percent-at, percent-of};
-use crate::fields::Bounds;
+use pid_fields::fields::Bounds;
 use crate::states::Pid;
 use reals::numbers::HUNDRED;
 use reals::numbers::ZERO;

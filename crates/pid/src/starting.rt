@@ -1,8 +1,8 @@
 // Starting a block that was read: cold or warm.
 ghost use mathlib.Core.Path.{_≡_};
 ghost use Rattle.pid.specs.Starting.{percent-of, cold-past, cold-fields, started-fields};
-use crate::fields::Fields;
-use crate::fields::Past;
+use pid_fields::fields::Fields;
+use pid_fields::fields::Past;
 use crate::setpoint::percent_at;
 use crate::states::Pid;
 use crate::states::PidBlock;

@@ -1,7 +1,7 @@
 // The two states of a PID block: read, and started. Neither is copied, and each keeps its ranges by its type.
 ghost use lib.Dec.{T};
-ghost use Rattle.pid.specs.Checks.{good, good-e2};
-use crate::fields::Fields;
+ghost use Rattle.pid_fields.specs.Checks.{good, good-e2};
+use pid_fields::fields::Fields;
 
 // A block that was read and is not started yet.
 #[derive(Drop)]

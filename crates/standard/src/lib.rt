@@ -4,7 +4,7 @@ ghost use Rattle.standard.specs.Standard.{standard-words as words-of};
 use block::key::ModeKey;
 use block::words::LENGTH;
 use block::words::fill_words;
-use pid::fields::Settings;
+use pid_fields::fields::Settings;
 
 // The words of a standard block that are not 0, each with its offset. A real takes two words, low half first, and the low half of each of these is 0.
 const TABLE: [(u16, u16); 10] = [

@@ -2,7 +2,7 @@ use mathlib.Core.Path.{sym}
 use lib.Dec.{T}
 use lib.Ieee.{fits, binary32}
 use borrow.Author.Needs.{needs}
-use Rattle.pid.proofs.Accepts.{read-good}
+use Rattle.pid_fields.proofs.Accepts.{read-good}
 use Rattle.pid.proofs.reading.read.Needs as need
 
 pub ghost-result : need.ghost-result

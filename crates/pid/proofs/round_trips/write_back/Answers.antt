@@ -9,7 +9,7 @@ use Rattle.std.specs.declared.result.Result.{Result}
 use Rattle.std.specs.declared.result.Result.the-variants.{Err}
 use Rattle.terms.specs.declared.refusal.Refusal.{Refusal}
 use Rattle.block.specs.Checks.{done}
-use Rattle.pid.specs.declared.fields.Fields.{Fields}
+use Rattle.pid_fields.specs.declared.fields.Fields.{Fields}
 use Rattle.pid.specs.RoundTrips.{same-block}
 use Rattle.pid.specs.Reading.{read-of}
 use Rattle.pid.proofs.Trips.{warm-fields, warm-refused, block-trip}

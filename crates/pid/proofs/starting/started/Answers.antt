@@ -1,8 +1,8 @@
 use mathlib.Core.Path.{sym, subst}
 use lib.Dec.{T}
 use lib.Ieee.{Float}
-use Rattle.pid.specs.declared.fields.Fields.{Fields}
-use Rattle.pid.specs.Checks.{good, good-e2}
+use Rattle.pid_fields.specs.declared.fields.Fields.{Fields}
+use Rattle.pid_fields.specs.Checks.{good, good-e2}
 use Rattle.pid.proofs.Starts.{good-percent, good-started}
 use Rattle.pid.proofs.starting.started.Needs as need
 

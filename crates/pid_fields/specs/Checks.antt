@@ -8,23 +8,27 @@ use Rattle.terms.specs.declared.place.Place.the-variants as at
 use Rattle.terms.specs.declared.refusal.Cause.the-variants.{OutOfRange, LimitsCrossed, SpanTooSmall, PeriodTooLong}
 use Rattle.block.specs.Key.{key-valid}
 use Rattle.block.specs.Checks.{Check, is-finite, is-in, sound, all}
-use Rattle.pid.specs.declared.fields.Settings.{Settings}
-use Rattle.pid.specs.declared.fields.Bounds.{Bounds}
-use Rattle.pid.specs.declared.fields.Tuning.{Tuning}
-use Rattle.pid.specs.declared.fields.Past.{Past}
-use Rattle.pid.specs.declared.fields.Fields.{Fields}
+use Rattle.pid_fields.specs.declared.fields.Settings.{Settings}
+use Rattle.pid_fields.specs.declared.fields.Bounds.{Bounds}
+use Rattle.pid_fields.specs.declared.fields.Tuning.{Tuning}
+use Rattle.pid_fields.specs.declared.fields.Past.{Past}
+use Rattle.pid_fields.specs.declared.fields.Fields.{Fields}
 use Rattle.reals.specs.Numbers.{zero, hundred, bottom, top, least, most, narrowest, longest}
 
 -- N, the number of scans in a control period: the whole part of CT ÷ ΔT, or 1 where that is below 1
 abbrev pub periods : Float → Float → ℕ
 periods ct dt = max 1 (toUnsigned 16 (div binary32 ct dt))
 
+-- ΔT is above 0 and at most 999999
+abbrev pub period-ok : Float → Bool
+period-ok dt = lt zero dt && le dt most
+
 -- each setting finite and then in its range; key and PN are whole numbers
 abbrev pub settings-checks : Settings → List Check
 settings-checks st =
     (key-valid (st .key), OutOfRange at.ModeKey)
     ∷ is-finite at.ScanPeriod (st .dt)
-    ∷ (lt zero (st .dt) && le (st .dt) most, OutOfRange at.ScanPeriod)
+    ∷ (period-ok (st .dt), OutOfRange at.ScanPeriod)
     ∷ is-finite at.Md (st .md)
     ∷ is-in zero most at.Md (st .md)
     ∷ (leb (st .pn) 1, OutOfRange at.Pn)

@@ -1,7 +1,7 @@
 // The checks of a block's values, each in the order of reading.
 ghost use mathlib.Core.Path.{_≡_};
 ghost use Rattle.block.specs.Checks.{passed};
-ghost use Rattle.pid.specs.Checks.{periods as periods-of, settings-checks, bounds-ranges, tuning-ranges, relation-checks};
+ghost use Rattle.pid_fields.specs.Checks.{periods as periods-of, period-ok, settings-checks, bounds-ranges, tuning-ranges, relation-checks};
 use crate::fields::Bounds;
 use crate::fields::Fields;
 use crate::fields::Settings;
@@ -27,12 +27,18 @@ pub fn periods(ct: f32, dt: f32) -> u16
     saturating_f32_to_u16(ct / dt).max(1)
 }
 
+fn is_scan_period(dt: f32) -> bool
+    ensures { λ r. ⌜ r ≡ period-ok dt ⌝ }
+{
+    ZERO < dt && dt <= MOST
+}
+
 pub(crate) fn check_settings(s: Settings) -> Result<(), Cause>
     ensures { λ r. ⌜ r ≡ passed (settings-checks s) ⌝ }
 {
     refuse_unless(s.key.is_valid(), Cause::OutOfRange(Place::ModeKey))?;
     refuse_unless(s.dt.is_finite(), Cause::NotFinite(Place::ScanPeriod))?;
-    refuse_unless(ZERO < s.dt && s.dt <= MOST, Cause::OutOfRange(Place::ScanPeriod))?;
+    refuse_unless(is_scan_period(s.dt), Cause::OutOfRange(Place::ScanPeriod))?;
     refuse_unless(s.md.is_finite(), Cause::NotFinite(Place::Md))?;
     in_range(s.md, ZERO, MOST, Place::Md)?;
     refuse_unless(s.pn <= 1, Cause::OutOfRange(Place::Pn))

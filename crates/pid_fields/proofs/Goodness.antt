@@ -5,8 +5,8 @@ use lib.Ieee.{Float, le, lt, fits, binary32}
 use Rattle.reals.specs.Reals.{inside}
 use Rattle.block.specs.Checks.{sound, all}
 use Rattle.block.proofs.Passing.{both, split}
-use Rattle.pid.specs.declared.fields.Fields.{Fields}
-use Rattle.pid.specs.Checks.{settings-checks, signals-finite, bounds-finite, tuning-finite, past-finite, bounds-ranges, tuning-ranges, relation-checks, held, tuning-held, past-held, good}
+use Rattle.pid_fields.specs.declared.fields.Fields.{Fields}
+use Rattle.pid_fields.specs.Checks.{settings-checks, signals-finite, bounds-finite, tuning-finite, past-finite, bounds-ranges, tuning-ranges, relation-checks, held, tuning-held, past-held, good}
 
 pub record Good (f : Fields) : Type 0 where
   pub settings : T (sound (settings-checks (f .settings)))

@@ -21,11 +21,11 @@ use Rattle.block.specs.Words.{word-at, real-at}
 use Rattle.block.specs.Key.{mode-in}
 use Rattle.block.specs.Checks.{length-checks, passed, sound, _next_, all}
 use Rattle.block.proofs.Passing.{both, split, not-ok, passed-next, given-next, is-whole}
-use Rattle.pid.specs.declared.fields.Settings.{Settings}
-use Rattle.pid.specs.declared.fields.Fields.{Fields}
-use Rattle.pid.specs.Checks.{settings-checks, signals-finite, bounds-finite, tuning-finite, past-finite, bounds-ranges, tuning-ranges, relation-checks, held, tuning-held, past-held, good}
-use Rattle.pid.specs.Reading.{bounds-of, tuning-of, past-of, signals-read, bounds-read, tuning-read, past-read, mode-read, carried, fields-with, checked-of}
-use Rattle.pid.proofs.Goodness.{Good, is-good}
+use Rattle.pid_fields.specs.declared.fields.Settings.{Settings}
+use Rattle.pid_fields.specs.declared.fields.Fields.{Fields}
+use Rattle.pid_fields.specs.Checks.{settings-checks, signals-finite, bounds-finite, tuning-finite, past-finite, bounds-ranges, tuning-ranges, relation-checks, held, tuning-held, past-held, good}
+use Rattle.pid_fields.specs.Reading.{bounds-of, tuning-of, past-of, signals-read, bounds-read, tuning-read, past-read, mode-read, carried, fields-with, checked-of}
+use Rattle.pid_fields.proofs.Goodness.{Good, is-good}
 
 -- the fields of words whose MODE names m
 abbrev pub fields-of : List ℕ → Settings → Mode → Fields

@@ -1,0 +1,3 @@
+pub mod Goodness
+pub mod Accepts
+pub mod Rereads
