@@ -10,7 +10,7 @@ use native.Mathlib.Numerals.{add-one}
 use lib.ListN.{length, getD, set, drop, length-set}
 use lib.Seq.{getD-set-same, getD-set-other, set-getD, drop-cons, drop-length}
 use lib.Ieee.{Float, binary32, fits}
-use borrow.Author.Tests.{ne-eqb, eq-eqb}
+use borrow.Author.Tests.{eq-eqb}
 use Rattle.std.specs.Floats.{finite}
 use Rattle.reals.specs.Reals.{real-of, low-word, high-word}
 use Rattle.reals.proofs.Bits.{real-back, low-back, high-back}

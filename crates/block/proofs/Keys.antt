@@ -1,5 +1,5 @@
 -- The MODE word of a mode names that mode, and the word that names a mode is that mode's. Assumes nothing.
-use mathlib.Core.Path.{_≡_, refl, sym, ap, _∙_, subst}
+use mathlib.Core.Path.{_≡_, refl, sym, ap, _∙_}
 use mathlib.Core.Bool.{Bool, true, false, cond, not, _&&_}
 use Prim.Native.Nat.{ℕ, _^_, _<_}
 use native.Mathlib.Omega.{arith}
@@ -8,7 +8,6 @@ use lib.Pow.{pow-lt}
 use lib.Ieee.Bits.{is-true}
 use lib.Ieee.Fits.{eq→eqb}
 use borrow.Author.Tests.{eq-eqb, ne-eqb}
-use Rattle.std.specs.declared.option.Option.{Option}
 use Rattle.std.specs.declared.option.Option.the-variants.{Some, None}
 use Rattle.terms.specs.declared.mode.Mode.{Mode}
 use Rattle.terms.specs.declared.mode.Mode.the-variants.{Man, Aut, Cas}

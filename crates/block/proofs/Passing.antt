@@ -116,4 +116,3 @@ wrote ws a = go (eqb (length ws) block-length) a
     go : (b : Bool) → _≡_ {A = Result (Unit {0}) Refusal} (Ok tt) (cond b (Ok tt) (Err (refused WrongLength))) → b ≡ true
     go true h = refl
     go false h = absurd (not-ok (refused WrongLength) tt (sym h))
-

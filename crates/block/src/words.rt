@@ -13,7 +13,11 @@ pub const LENGTH: usize = 128;
 fn word(words: &[u16], offset: usize) -> u16
     ensures { λ r. ⌜ r ≡ getD (now (words .entry)) offset 0 ⌝ }
 {
-    if offset < words.len() { words[offset] } else { 0 }
+    if offset < words.len() {
+        words[offset]
+    } else {
+        0
+    }
 }
 
 // The word of a field.

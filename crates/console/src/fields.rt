@@ -1,9 +1,12 @@
 // Prints the fields of a PID block.
 use block::words::real_at;
+use block::words::word_at;
+use standard::SETTINGS;
 use std::error::AnyError;
+use terms::mode::Mode;
 use terms::place::Place;
 
-// A field: its name, its place, and how many words it takes.
+// A field: its name, its place, and how it stands in the words.
 #[derive(Clone, Copy, Drop)]
 struct Row {
     name: &'static str,
@@ -11,7 +14,7 @@ struct Row {
     form: Form,
 }
 
-// How a field stands in the words: as one word, or as a real in two words, low half first.
+// One word, or a real in two words, low half first.
 #[derive(Clone, Copy, Drop)]
 enum Form {
     Word,
@@ -141,35 +144,75 @@ const ROWS: [Row; 24] = [
     },
 ];
 
-fn word(words: &[u16], offset: usize) -> u16 {
-    words.get(offset).copied().unwrap_or(0)
+// SPA, bit 14 of ALM: the loop is stopped.
+const SPA: u16 = 0x4000;
+
+// TRKF, bit 13 of INH.
+const TRKF: u16 = 0x2000;
+
+// What a word says.
+fn meaning(place: Place, word: u16) -> &'static str {
+    match place {
+        Place::Mode => match SETTINGS.key.mode(word) {
+            Some(Mode::Man) => "MAN",
+            Some(Mode::Aut) => "AUT",
+            Some(Mode::Cas) => "CAS",
+            None => "no mode",
+        },
+        Place::Alm if word & SPA != 0 => "stopped",
+        Place::Inh if word & TRKF != 0 => "TRKF set",
+        _ => "",
+    }
 }
 
-fn show_row(rt: &LibcRuntime, row: Row, before: &[u16], after: &[u16]) -> Result<(), AnyError> {
+fn show_word(rt: &LibcRuntime, row: Row, before: &[u16], after: &[u16]) -> Result<(), AnyError> {
     let name = row.name;
-    let offset = usize::from(row.place.number());
-    let old = word(before, offset);
-    let new = word(after, offset);
-    match row.form {
-        Form::Word => println!(rt, "{offset:>6}  {name:<11}  {old:04X}       {new:04X}")?,
-        Form::Real => {
-            let old_high = word(before, offset + 1);
-            let new_high = word(after, offset + 1);
-            print!(rt, "{offset:>6}  {name:<11}  {old:04X} {old_high:04X}  {new:04X} {new_high:04X}")?;
-            match real_at(after, row.place) {
-                Some(x) => println!(rt, "  {x}")?,
-                None => println!(rt, "  not finite")?,
-            }
-        }
-    }
+    let offset = row.place.number();
+    let old = word_at(before, row.place);
+    let new = word_at(after, row.place);
+    let says = meaning(row.place, new);
+    println!(
+        rt,
+        "{offset:>6}  {name:<11}  {old:04X}       {new:04X}       {says}"
+    )?;
     Ok(())
 }
 
-// Prints each field by name and offset, with its words before and after and, for a real, the value after.
-pub fn show_fields(rt: &LibcRuntime, before: &[u16], after: &[u16]) -> Result<(), AnyError> {
-    println!(rt, "offset  field        before     after      value")?;
-    for row in ROWS {
-        show_row(rt, row, before, after)?;
+// The two words of a real, low half first.
+fn halves(words: &[u16], place: Place) -> (u16, u16) {
+    let at = usize::from(place.number());
+    if at + 1 < words.len() {
+        (words[at], words[at + 1])
+    } else {
+        (0, 0)
+    }
+}
+
+fn show_real(rt: &LibcRuntime, row: Row, before: &[u16], after: &[u16]) -> Result<(), AnyError> {
+    let name = row.name;
+    let offset = row.place.number();
+    let (low, high) = halves(before, row.place);
+    let (new_low, new_high) = halves(after, row.place);
+    let x = real_at(after, row.place).unwrap_or(f32::NAN);
+    println!(
+        rt,
+        "{offset:>6}  {name:<11}  {low:04X} {high:04X}  {new_low:04X} {new_high:04X}  {x}"
+    )?;
+    Ok(())
+}
+
+fn show_row(rt: &LibcRuntime, row: Row, before: &[u16], after: &[u16]) -> Result<(), AnyError> {
+    match row.form {
+        Form::Word => show_word(rt, row, before, after),
+        Form::Real => show_real(rt, row, before, after),
+    }
+}
+
+// Prints each field by name and offset, with its words before and after and what they say after.
+pub(crate) fn show_fields(rt: &LibcRuntime, before: &[u16], after: &[u16]) -> Result<(), AnyError> {
+    println!(rt, "offset  field        before     after      says")?;
+    for row in &ROWS {
+        show_row(rt, *row, before, after)?;
     }
     Ok(())
 }

@@ -3,16 +3,16 @@ mod fields;
 mod stations;
 
 use fields::show_fields;
-use pid_fields::fields::Settings;
 use pid::reading::read;
 use pid::round_trips::write_back;
+use pid_fields::fields::Settings;
 use standard::SETTINGS;
 use standard::standard_words;
 use stations::show_station;
 use std::error::AnyError;
 use terms::refusal::RefusalDisplay;
 
-// CT is a real at offset 46, and the counter a word at offset 97.
+// CT is a real at offset 46: its high half is the next word.
 const CT_HIGH: usize = 47;
 
 // The high half of the real 32768.
@@ -28,7 +28,10 @@ const TWO_AND_A_HALF: u16 = 0x4020;
 
 // Reads the block, starts it cold, writes it back and prints its fields.
 fn show_cold_start(rt: &LibcRuntime, found: &[u16; 128]) -> Result<(), AnyError> {
-    println!(rt, "A standard PID block, read, started cold and written back:")?;
+    println!(
+        rt,
+        "A standard PID block, read, started cold and written back:"
+    )?;
     let mut words = *found;
     match read(&words, SETTINGS) {
         Ok(block) => {
@@ -60,12 +63,18 @@ fn show_same_block(rt: &LibcRuntime, found: &[u16; 128]) -> Result<(), AnyError>
     let mut words = *found;
     words[LAST_DV_HIGH] = TWO_AND_A_HALF;
     let before = words;
-    println!(rt, "\nThe same block with a last deviation of 2.5, started warm and written over itself:")?;
+    println!(
+        rt,
+        "\nThe same block with a last deviation of 2.5, started warm and written over itself:"
+    )?;
     match write_back(&mut words, SETTINGS) {
         Ok(()) => {
             let changed = count_changed(&before, &words);
             let dv = words[DV_HIGH];
-            println!(rt, "ok, words changed: {changed} (offset {DV_HIGH}, high half of DV, is {dv:04X})")?;
+            println!(
+                rt,
+                "ok, words changed: {changed} (offset {DV_HIGH}, high half of DV, is {dv:04X})"
+            )?;
         }
         Err(refusal) => println!(rt, "{refusal}")?,
     }
@@ -74,13 +83,20 @@ fn show_same_block(rt: &LibcRuntime, found: &[u16; 128]) -> Result<(), AnyError>
 
 // Writes a loop into words full of ones, reads them with the loop's own settings and starts them warm: the same loop.
 fn show_same_loop(rt: &LibcRuntime, found: &[u16; 128]) -> Result<(), AnyError> {
-    println!(rt, "\nA loop written into words of all ones, and started warm from them:")?;
+    println!(
+        rt,
+        "\nA loop written into words of all ones, and started warm from them:"
+    )?;
     match read(found, SETTINGS) {
         Ok(block) => {
             let mut pid = block.cold_start();
             let mut words = [0xffff; 128];
             match pid.restart(&mut words) {
-                Ok(()) => println!(rt, "ok, it is the same loop")?,
+                Ok(()) => {
+                    let s = pid.percent();
+                    let e2 = pid.e2();
+                    println!(rt, "ok, it is the same loop, with S {s} and E2 {e2}")?;
+                }
                 Err(refusal) => println!(rt, "{refusal}")?,
             }
         }
@@ -89,7 +105,12 @@ fn show_same_loop(rt: &LibcRuntime, found: &[u16; 128]) -> Result<(), AnyError> 
     Ok(())
 }
 
-fn show_reading(rt: &LibcRuntime, what: &str, words: &[u16], settings: Settings) -> Result<(), AnyError> {
+fn show_reading(
+    rt: &LibcRuntime,
+    what: &str,
+    words: &[u16],
+    settings: Settings,
+) -> Result<(), AnyError> {
     match read(words, settings) {
         Ok(_) => println!(rt, "{what}: read")?,
         Err(refusal) => println!(rt, "{what}: {refusal}")?,

@@ -24,7 +24,10 @@ fn show_started(rt: &LibcRuntime, words: &[u16; 128]) -> Result<(), AnyError> {
             let s = station.percent();
             let mut other = [0xffff; 128];
             match station.restart(&mut other) {
-                Ok(()) => println!(rt, "ok, S and E2 are {s}, and written into other words and read again it is the same station")?,
+                Ok(()) => println!(
+                    rt,
+                    "ok, S and E2 are {s}, and written into other words and read again it is the same station"
+                )?,
                 Err(refusal) => println!(rt, "{refusal}")?,
             }
         }
@@ -34,7 +37,7 @@ fn show_started(rt: &LibcRuntime, words: &[u16; 128]) -> Result<(), AnyError> {
 }
 
 // Shows the block as a hand station with an output of 40, and then in AUT, which a hand station does not carry.
-pub fn show_station(rt: &LibcRuntime, found: &[u16; 128]) -> Result<(), AnyError> {
+pub(crate) fn show_station(rt: &LibcRuntime, found: &[u16; 128]) -> Result<(), AnyError> {
     println!(rt, "\nThe block as a hand station, with MV 40:")?;
     let mut words = *found;
     words[MV_HIGH] = FORTY;

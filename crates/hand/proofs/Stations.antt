@@ -1,17 +1,16 @@
 -- What was read passes every check; a block through a hand station is the same block, and a station through a block the same station. Assumes nothing.
 use mathlib.Core.Path.{_≡_, refl, sym, ap, subst, _∙_}
-use mathlib.Core.Bool.{Bool, true, false, _&&_}
+use mathlib.Core.Bool.{true}
 use mathlib.Core.List.{List, [], _∷_}
-use Prim.Native.Nat.{ℕ, _<_, _+_}
+use Prim.Native.Nat.{ℕ, _<_}
 use lib.Dec.{T, eqb, eqb→eq, lit<}
-use lib.ListN.{length, getD}
+use lib.ListN.{length}
 use lib.Ieee.{binary32, fits}
 use lib.Ieee.Bits.{ofBits-fits}
 use lib.Ieee.Fits.{eq→eqb}
 use Rattle.std.specs.Floats.{finite}
-use Rattle.std.specs.declared.result.Result.the-variants.{Ok, Err}
+use Rattle.std.specs.declared.result.Result.the-variants.{Ok}
 use Rattle.terms.specs.declared.mode.Mode.the-variants.{Man}
-use Rattle.terms.specs.declared.place.Place.{Place}
 use Rattle.terms.specs.declared.place.Place.the-variants as at
 use Rattle.block.specs.declared.key.ModeKey.{ModeKey}
 use Rattle.block.specs.declared.start.Start.{Start}

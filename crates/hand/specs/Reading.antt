@@ -4,16 +4,16 @@ use Prim.Native.Nat.{ℕ}
 use lib.Dec.{eqb}
 use lib.Ieee.{Float}
 use Rattle.std.specs.declared.result.Result.{Result}
-use Rattle.std.specs.declared.result.Result.the-variants.{Ok, Err}
+use Rattle.std.specs.declared.result.Result.the-variants.{Ok}
 use Rattle.terms.specs.declared.mode.Mode.the-variants.{Man}
 use Rattle.terms.specs.declared.place.Place.the-variants as at
 use Rattle.terms.specs.declared.refusal.Cause.{Cause}
 use Rattle.terms.specs.declared.refusal.Cause.the-variants.{ModeNotCarried}
 use Rattle.terms.specs.declared.refusal.Refusal.{Refusal}
 use Rattle.block.specs.declared.key.ModeKey.{ModeKey}
-use Rattle.block.specs.Words.{word-at, real-at}
+use Rattle.block.specs.Words.{word-at}
 use Rattle.block.specs.Key.{mode-word}
-use Rattle.block.specs.Checks.{Check, passed, length-checks, is-finite, finite-field, _next_, at-top}
+use Rattle.block.specs.Checks.{Check, passed, length-checks, finite-field, _next_, at-top}
 use Rattle.hand.specs.declared.fields.Fields.{Fields}
 use Rattle.hand.specs.Checks.{key-checks, output-checks}
 

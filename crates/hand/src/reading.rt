@@ -24,7 +24,10 @@ fn checked(words: &[u16], key: ModeKey) -> Result<Fields, Cause>
     check_length(words)?;
     refuse_unless(key.is_valid(), Cause::OutOfRange(Place::ModeKey))?;
     let mv = finite_at(words, Place::Mv)?;
-    refuse_unless(word_at(words, Place::Mode) == key.word(Mode::Man), Cause::ModeNotCarried)?;
+    refuse_unless(
+        word_at(words, Place::Mode) == key.word(Mode::Man),
+        Cause::ModeNotCarried,
+    )?;
     in_range(mv, BOTTOM, TOP, Place::Mv)?;
     Ok(Fields {
         alm: word_at(words, Place::Alm),

@@ -1,9 +1,8 @@
 -- A started loop passes every check. Assumes nothing.
-use mathlib.Core.Bool.{Bool, true, false, cond, _&&_}
-use Prim.Native.Nat.{ℕ, max, _<_}
+use mathlib.Core.Bool.{Bool, true, false, cond}
 use native.Mathlib.Omega.{arith}
-use lib.Dec.{T, ltb, leb, lt→ltb}
-use lib.Ieee.{Float, binary32, lt, le, sub, mul, div, fits, ofBits, toUnsigned}
+use lib.Dec.{T, ltb, lt→ltb}
+use lib.Ieee.{Float, binary32, lt, le, sub, mul, div, fits, ofBits}
 use lib.Ieee.Fits.{mul-fits}
 use lib.Ieee.Bits.{ofBits-fits}
 use Rattle.std.specs.Floats.{finite}

@@ -8,7 +8,6 @@ use lib.ListN.{length}
 use lib.Ieee.{Float}
 use Rattle.std.specs.declared.result.Result.{Result}
 use Rattle.std.specs.declared.result.Result.the-variants.{Ok, Err}
-use Rattle.terms.specs.declared.place.Place.the-variants as at
 use Rattle.terms.specs.declared.refusal.Refusal.{Refusal}
 use Rattle.block.specs.Checks.{write-answer, done}
 use Rattle.block.proofs.Passing.{not-ok, top-ok, whole-test, wrote}

@@ -5,9 +5,9 @@ ghost use Rattle.pid.specs.Reading.{read-of};
 ghost use Rattle.pid.specs.Writing.{written};
 ghost use Rattle.pid.specs.Blocks.{as-loop, warm-of};
 ghost use Rattle.pid.specs.RoundTrips.{same-block, restarted-e2};
-use pid_fields::fields::Settings;
 use crate::reading::read;
 use crate::states::Pid;
+use pid_fields::fields::Settings;
 use terms::refusal::Refusal;
 
 // The loop of a block, started warm.

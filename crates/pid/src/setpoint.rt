@@ -1,8 +1,8 @@
 // The setpoint in percent.
 ghost use mathlib.Core.Path.{_≡_};
 ghost use Rattle.pid.specs.Starting.{percent-at, percent-of};
-use pid_fields::fields::Bounds;
 use crate::states::Pid;
+use pid_fields::fields::Bounds;
 use reals::numbers::HUNDRED;
 use reals::numbers::ZERO;
 use reals::order::bring;
@@ -11,7 +11,11 @@ use reals::order::bring;
 pub(crate) fn percent_at(sv: f32, bounds: Bounds) -> f32
     ensures { λ r. ⌜ r ≡ percent-at sv bounds ⌝ }
 {
-    bring((HUNDRED / (bounds.rh - bounds.rl)) * (sv - bounds.rl), ZERO, HUNDRED)
+    bring(
+        (HUNDRED / (bounds.rh - bounds.rl)) * (sv - bounds.rl),
+        ZERO,
+        HUNDRED,
+    )
 }
 
 impl Pid {

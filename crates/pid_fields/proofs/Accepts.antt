@@ -1,31 +1,30 @@
 -- What it says of words that reading accepts them. Assumes nothing.
 use mathlib.Core.Path.{_≡_, refl, sym, ap, subst, _∙_}
-use mathlib.Core.Bool.{Bool, true, false, cond, _&&_}
-use mathlib.Core.List.{List, [], _∷_}
+use mathlib.Core.Bool.{true}
+use mathlib.Core.List.{List}
 use Prim.Native.Nat.{ℕ}
-use lib.Dec.{T, eqb, eqb→eq}
-use lib.ListN.{length, getD}
-use lib.Ieee.{Float, binary32, fits}
+use lib.Dec.{T}
+use lib.ListN.{length}
+use lib.Ieee.{binary32, fits}
 use lib.Ieee.Bits.{ofBits-fits}
 use Rattle.std.specs.declared.option.Option.{Option}
 use Rattle.std.specs.declared.option.Option.the-variants.{Some, None}
 use Rattle.std.specs.declared.result.Result.{Result}
-use Rattle.std.specs.declared.result.Result.the-variants.{Ok, Err}
+use Rattle.std.specs.declared.result.Result.the-variants.{Ok}
 use Rattle.terms.specs.declared.mode.Mode.{Mode}
 use Rattle.terms.specs.declared.place.Place.{Place}
 use Rattle.terms.specs.declared.place.Place.the-variants as at
-use Rattle.terms.specs.Refusals.{place-number}
 use Rattle.terms.specs.declared.refusal.Cause.{Cause}
 use Rattle.terms.specs.declared.refusal.Cause.the-variants.{ModeNotCarried}
 use Rattle.block.specs.Words.{word-at, real-at}
 use Rattle.block.specs.Key.{mode-in}
-use Rattle.block.specs.Checks.{length-checks, passed, sound, _next_, all}
-use Rattle.block.proofs.Passing.{both, split, not-ok, passed-next, given-next, is-whole}
+use Rattle.block.specs.Checks.{length-checks, sound, _next_}
+use Rattle.block.proofs.Passing.{both, not-ok, passed-next, given-next, is-whole}
 use Rattle.pid_fields.specs.declared.fields.Settings.{Settings}
 use Rattle.pid_fields.specs.declared.fields.Fields.{Fields}
-use Rattle.pid_fields.specs.Checks.{settings-checks, signals-finite, bounds-finite, tuning-finite, past-finite, bounds-ranges, tuning-ranges, relation-checks, held, tuning-held, past-held, good}
-use Rattle.pid_fields.specs.Reading.{bounds-of, tuning-of, past-of, signals-read, bounds-read, tuning-read, past-read, mode-read, carried, fields-with, checked-of}
-use Rattle.pid_fields.proofs.Goodness.{Good, is-good}
+use Rattle.pid_fields.specs.Checks.{settings-checks, signals-finite, bounds-finite, tuning-finite, past-finite, bounds-ranges, tuning-ranges, relation-checks, good}
+use Rattle.pid_fields.specs.Reading.{bounds-of, tuning-of, past-of, carried, fields-with, checked-of}
+use Rattle.pid_fields.proofs.Goodness.{is-good}
 
 -- the fields of words whose MODE names m
 abbrev pub fields-of : List ℕ → Settings → Mode → Fields

@@ -1,7 +1,6 @@
 -- What it says of fields that they pass every check, by name. Assumes nothing.
-use mathlib.Core.Bool.{Bool, true, false, _&&_}
 use lib.Dec.{T}
-use lib.Ieee.{Float, le, lt, fits, binary32}
+use lib.Ieee.{Float, le}
 use Rattle.reals.specs.Reals.{inside}
 use Rattle.block.specs.Checks.{sound, all}
 use Rattle.block.proofs.Passing.{both, split}

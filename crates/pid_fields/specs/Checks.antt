@@ -1,5 +1,5 @@
 -- The checks of a PID block, in the order in which reading makes them. A loop passes them all, always.
-use mathlib.Core.Bool.{Bool, true, false, _&&_}
+use mathlib.Core.Bool.{Bool, _&&_}
 use mathlib.Core.List.{List, [], _∷_}
 use Prim.Native.Nat.{ℕ, max}
 use lib.Dec.{leb, ltb}

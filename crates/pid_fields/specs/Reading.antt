@@ -1,5 +1,5 @@
 -- Reading a PID block: the fields that its words hold, or the first refusal.
-use mathlib.Core.List.{List, [], _∷_}
+use mathlib.Core.List.{List}
 use Prim.Native.Nat.{ℕ}
 use lib.Ieee.{Float}
 use Rattle.std.specs.declared.option.Option.{Option}

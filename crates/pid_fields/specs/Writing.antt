@@ -1,5 +1,5 @@
 -- Writing a PID loop into the words of a block.
-use mathlib.Core.List.{List, [], _∷_, _++_}
+use mathlib.Core.List.{List, _++_}
 use Prim.Native.Nat.{ℕ}
 use lib.ListN.{getD, set}
 use Rattle.terms.specs.declared.place.Place.the-variants as at

@@ -76,5 +76,8 @@ pub(crate) fn check_relations(f: Fields) -> Result<(), Cause>
     refuse_unless(NARROWEST <= b.rh - b.rl, Cause::SpanTooSmall)?;
     refuse_unless(ct / dt <= LONGEST, Cause::PeriodTooLong)?;
     in_range(f.sv, b.rl, b.rh, Place::Sv)?;
-    refuse_unless(f.counter < periods(ct, dt), Cause::OutOfRange(Place::Counter))
+    refuse_unless(
+        f.counter < periods(ct, dt),
+        Cause::OutOfRange(Place::Counter),
+    )
 }

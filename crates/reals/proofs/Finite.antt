@@ -1,7 +1,7 @@
 -- Where sums, quotients and products of reals are finite, or at least numbers. Assumes nothing.
-use mathlib.Core.Path.{_≡_, refl, sym, subst}
-use mathlib.Core.Bool.{Bool, true, false, not, cond, _&&_, true≢false, Bool·beq}
-use Prim.Native.Nat.{ℕ, _+_, _-_, _*_, _^_, _≤_, _<_}
+use mathlib.Core.Path.{_≡_, sym, subst}
+use mathlib.Core.Bool.{Bool, true, false, not, cond, _&&_, Bool·beq}
+use Prim.Native.Nat.{ℕ, _+_, _-_, _*_, _≤_, _<_}
 use native.Mathlib.Nat.{mul-le-mul-right, mul-pos}
 use native.Mathlib.Omega.{arith}
 use borrow.Author.Differences.{ints}
@@ -9,15 +9,13 @@ use borrow.Author.Tests.{ne-eqb}
 use lib.Dec.{T, ltb}
 use lib.IntN.{ℤ, pos, negsuc}
 use lib.Signed.{_≤ℤ_}
-use lib.Ieee.{Float, Format, nan, inf, fin, binary32, up, down, round, sum, add, sub, mul, div, le, fits, ofBits, isNan}
-use lib.Ieee.Fits.{down-pos, round-fits, sub-fits}
+use lib.Ieee.{Float, Format, nan, inf, fin, binary32, up, down, round, sum, sub, mul, div, le, ofBits}
+use lib.Ieee.Fits.{down-pos, round-fits}
 use lib.Ieee.Order.{round-mono}
-use lib.Ieee.Bits.{is-false}
 use Rattle.std.specs.Floats.{finite}
-use Rattle.std.proofs.num.Compares.{passes}
 use Rattle.std.proofs.num.Values.{neg-round, round-zero}
 use Rattle.reals.proofs.OrderLaws.{finite-between}
-use Rattle.reals.proofs.Units.{signed, at-most-is, fit, neg-number}
+use Rattle.reals.proofs.Units.{signed, at-most-is, neg-number}
 use Rattle.reals.proofs.Sums.{across, round-number}
 use Rattle.reals.specs.Numbers.{hundred, most, least, narrowest}
 use Rattle.reals.specs.Laws.{Number}

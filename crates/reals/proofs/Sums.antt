@@ -1,24 +1,23 @@
 -- A sum of floats is the sum of their units, rounded; rounding keeps the order, so sums do. Assumes nothing.
-use mathlib.Core.Path.{_≡_, refl, sym, ap, subst, _∙_}
-use mathlib.Core.Logic.{_⊎_, inl, inr}
-use mathlib.Core.Bool.{Bool, true, false, not, cond, Bool·beq}
-use Prim.Native.Nat.{ℕ, zero, suc, _+_, _-_, _*_, _/_, _^_, _≤_, _<_}
-use native.Mathlib.Nat.{mul-pos, mul-le-mul-right, le-refl as nat-refl}
+use mathlib.Core.Path.{_≡_, refl, sym, subst}
+use mathlib.Core.Bool.{Bool, true, false, not, Bool·beq}
+use Prim.Native.Nat.{ℕ, zero, suc, _+_, _-_, _*_, _^_, _≤_, _<_}
+use native.Mathlib.Nat.{mul-pos, mul-le-mul-right}
 use native.Mathlib.Omega.{arith}
 use lib.Dec.{T}
-use lib.IntN.{ℤ, pos, negsuc, negℤ, _+ℤ_, _-ℤ_}
+use lib.IntN.{ℤ, pos, negsuc, _+ℤ_, _-ℤ_}
 use lib.Signed.{leZ, _≤ℤ_}
 use lib.Pow.{pow-pos}
 use borrow.Author.Differences.{ints}
-use lib.Ieee.{Float, Format, nan, inf, fin, binary32, low, up, down, lt, eq, le, neg, fits, round, sum, add, sub, isNan, ofBits}
+use lib.Ieee.{Float, Format, nan, inf, fin, binary32, low, up, down, eq, le, neg, fits, round, sum, add, sub, isNan, ofBits}
 use lib.Ieee.Fits.{down-pos}
 use lib.Ieee.Order.{round-mono}
 use Rattle.std.specs.Floats.{finite}
-use Rattle.std.proofs.num.Compares.{le-refl, le-trans, le-left, le-right}
+use Rattle.std.proofs.num.Compares.{le-trans, le-left, le-right}
 use Rattle.std.proofs.num.Values.{neg-round, round-zero, sum-same, sum-like, sum-less, sum-more, sum-level}
 use Rattle.reals.specs.Reals.{unitsIn, roundZ}
-use Rattle.reals.proofs.OrderLaws.{le-of-eq, ge-of-eq, le-antisym, eq-refl, eq-trans, eq-le, le-eq, eq-sym}
-use Rattle.reals.proofs.Units.{signed, ticks, at-most-is, by-order, first, second, Number, Fit, fit, units-fin, round-own, le→units, units-neg, neg-number}
+use Rattle.reals.proofs.OrderLaws.{le-of-eq, eq-refl, eq-le, le-eq, eq-sym}
+use Rattle.reals.proofs.Units.{signed, ticks, at-most-is, by-order, first, second, Number, fit, units-fin, round-own, le→units, units-neg, neg-number}
 
 -- ---- negation turns the order round
 

@@ -1,11 +1,11 @@
 -- A finite float that fits is a whole number of units, and the order of floats is that of these numbers. Assumes nothing.
 use mathlib.Core.Path.{_≡_, refl, sym, ap, subst, _∙_}
-use mathlib.Core.Logic.{_⊎_, inl, inr}
-use mathlib.Core.Bool.{Bool, true, false, not, cond, _&&_, _||_, Bool·beq}
+use mathlib.Core.Logic.{inl, inr}
+use mathlib.Core.Bool.{Bool, true, false, not, _&&_, _||_, Bool·beq}
 use Prim.Native.Nat.{ℕ, zero, suc, _+_, _-_, _*_, _/_, _%_, _^_, _≤_, _<_, suc-le-suc}
-use native.Mathlib.Nat.{mul-div-cancel, mul-pos, mul-assoc, mul-comm, mul-right-comm, mul-lt-mul-of-pos-right, lt-of-mul-lt-mul-right, mul-le-mul-right, le-of-mul-le-mul-right, eq-of-mul-eq-mul-right, eq-zero-or-pos, lt-of-not-le, not-le-of-lt}
+use native.Mathlib.Nat.{mul-div-cancel, mul-pos, mul-assoc, mul-lt-mul-of-pos-right, lt-of-mul-lt-mul-right, mul-le-mul-right, le-of-mul-le-mul-right, eq-of-mul-eq-mul-right, eq-zero-or-pos, lt-of-not-le, not-le-of-lt}
 use native.Mathlib.Omega.{arith}
-use lib.Dec.{T, not-T, leb, ltb, eqb, leb→le, ltb→lt, eqb→eq, le→leb, lt→ltb}
+use lib.Dec.{T, not-T, leb, ltb, eqb, leb→le, ltb→lt, eqb→eq}
 use lib.IntN.{ℤ, pos, negsuc, negℤ}
 use lib.Signed.{leZ, ltZ, _≤ℤ_, _<ℤ_}
 use lib.Pow.{pow-pos, pow-add, pow-lt}
@@ -13,7 +13,7 @@ use borrow.Author.Tests.{lt-ltb, le-ltb, eq-eqb, ne-eqb}
 use borrow.Author.Differences.{ints}
 use lib.Ieee.{Float, Format, nan, inf, fin, prec, emax, low, up, down, below, level, lt, eq, le, neg, fits, round}
 use lib.Ieee.Bits.{is-true, is-false}
-use lib.Ieee.Fits.{down-pos, up-pos, and-l, and-r, and-i, eq→eqb, round-fits, neg-fits}
+use lib.Ieee.Fits.{down-pos, and-l, and-r, round-fits, neg-fits}
 use lib.Ieee.Exact.{HasValue, round-exact}
 use Rattle.std.proofs.shelf.Tests.{or-cases}
 use Rattle.std.proofs.num.Compares.{passes}

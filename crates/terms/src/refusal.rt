@@ -82,6 +82,9 @@ pub impl fmt::Display for Refusal as RefusalDisplay {
         let place = self.cause.place();
         let level = self.level;
         let text = self.cause.text();
-        write!(f, "refused by {number}, level {level}, place {place}: {text}")
+        write!(
+            f,
+            "refused by {number}, level {level}, place {place}: {text}"
+        )
     }
 }

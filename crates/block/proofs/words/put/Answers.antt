@@ -1,7 +1,7 @@
-use mathlib.Core.Path.{_≡_, sym}
+use mathlib.Core.Path.{sym}
 use Prim.Native.Nat.{_≤_}
 use native.Mathlib.Omega.{arith}
-use lib.ListN.{length, set}
+use lib.ListN.{length}
 use borrow.Author.Tests.{ltb-false}
 use Rattle.std.proofs.shelf.Lists.{set-past}
 use Rattle.block.proofs.words.put.Needs as need

@@ -1,9 +1,8 @@
 use mathlib.Core.Path.{_≡_, sym}
 use mathlib.Core.Bool.{true, false}
-use Prim.Native.Nat.{_<_, _%_}
+use Prim.Native.Nat.{_%_}
 use native.Mathlib.Omega.{arith}
 use lib.Dec.{ltb}
-use borrow.Author.Needs.{needs}
 use borrow.Author.Tests.{ltb-true}
 use Rattle.reals.specs.Reals.{pattern}
 use Rattle.reals.proofs.Bits.{Plain, bits-no-nan, pattern-kept, plain-real, other-real}

@@ -1,4 +1,4 @@
-use mathlib.Core.Path.{_≡_, refl, sym, ap, _∙_}
+use mathlib.Core.Path.{_≡_, refl, ap, _∙_}
 use Rattle.block.proofs.Passing.{not-ok}
 use Rattle.pid.specs.Reading.{read-of}
 use Rattle.pid.specs.Starting.{percent-of}
