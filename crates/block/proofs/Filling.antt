@@ -3,7 +3,7 @@ use mathlib.Core.Path.{_≡_, refl, sym, ap, _∙_, subst}
 use mathlib.Core.Bool.{Bool, true, false, cond}
 use mathlib.Core.Logic.{_≢_}
 use mathlib.Core.List.{List, [], _∷_, _++_}
-use Prim.Native.Nat.{ℕ, _+_, _<_, _^_}
+use Prim.Native.Nat.{ℕ, zero, suc, _+_, _<_, _^_}
 use native.Mathlib.Omega.{arith}
 use lib.Dec.{T, eqb, eqb→eq}
 use native.Mathlib.Numerals.{add-one}
@@ -67,9 +67,10 @@ word-kept es ws p w h e = fill-get es ws (place-number p) h ∙ e
 
 -- ---- finite reals that were read have the words that they were read from
 
-pub join : (xs ys : List (ℕ × ℕ)) (ws : List ℕ) → Agrees xs ws → Agrees ys ws → Agrees (xs ++ ys) ws
-join [] ys ws a b = b
-join (x ∷ xs) ys ws a b = (a .0, join xs ys ws (a .1) b)
+pub drop-agrees : (n : ℕ) (es : List (ℕ × ℕ)) (ws : List ℕ) → Agrees es ws → Agrees (drop n es) ws
+drop-agrees zero es ws a = a
+drop-agrees (suc n) [] ws a = tt
+drop-agrees (suc n) (e ∷ es) ws a = drop-agrees n es ws (a .1)
 
 abbrev pub finite-all : List ℕ → List Place → List Check
 finite-all ws [] = []

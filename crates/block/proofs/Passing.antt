@@ -1,24 +1,22 @@
 -- Checks that pass, and chains of steps that came to their end. Assumes nothing.
 use mathlib.Core.Path.{_≡_, refl, sym, ap, _∙_}
 use mathlib.Core.Bool.{Bool, true, false, cond, _&&_}
-use mathlib.Core.List.{List, [], _∷_}
-use Prim.Native.Nat.{ℕ}
+use mathlib.Core.List.{List, [], _∷_, _++_}
+use Prim.Native.Nat.{ℕ, zero, suc, _+_, _<_}
 use native.Mathlib.Omega.{arith}
 use lib.Dec.{T, eqb, eqb→eq}
-use lib.ListN.{length}
-use lib.Ieee.{Float}
-use lib.Ieee.Bits.{is-true}
+use native.Mathlib.Numerals.{add-one}
+use lib.ListN.{length, getD, take, drop}
+use lib.Seq.{drop-cons, drop-length}
 use borrow.Author.Tests.{eq-eqb}
-use Rattle.std.specs.Floats.{finite}
 use Rattle.std.specs.declared.result.Result.{Result}
 use Rattle.std.specs.declared.result.Result.the-variants.{Ok, Err}
-use Rattle.terms.specs.declared.place.Place.{Place}
 use Rattle.terms.specs.declared.refusal.Cause.{Cause}
-use Rattle.terms.specs.declared.refusal.Cause.the-variants.{WrongLength, NotFinite}
+use Rattle.terms.specs.declared.refusal.Cause.the-variants.{WrongLength}
 use Rattle.terms.specs.declared.refusal.Refusal.{Refusal}
 use Rattle.terms.specs.Refusals.{refused}
-use Rattle.block.specs.Words.{block-length, real-at}
-use Rattle.block.specs.Checks.{Check, passed, sound, all, _next_, at-top, length-checks, write-answer, finite-field}
+use Rattle.block.specs.Words.{block-length}
+use Rattle.block.specs.Checks.{Check, passed, sound, all, _next_, at-top, length-checks, write-answer}
 
 pub both : (a b : Bool) → T a → T b → T (a && b)
 both true b t u = u
@@ -40,6 +38,15 @@ spread (b ∷ bs) t = let p = split b (all bs) t in (p .0, spread bs (p .1))
 pub gather : (bs : List Bool) → All bs → T (all bs)
 gather [] h = tt
 gather (b ∷ bs) h = both b (all bs) (h .0) (gather bs (h .1))
+
+pub front : (n : ℕ) (bs : List Bool) → T (all bs) → T (all (take n bs))
+front zero bs t = tt
+front (suc n) [] t = tt
+front (suc n) (b ∷ bs) t = let p = split b (all bs) t in both b (all (take n bs)) (p .0) (front n bs (p .1))
+
+pub join : (xs bs : List Bool) → T (all xs) → T (all bs) → T (all (xs ++ bs))
+join [] bs t u = u
+join (a ∷ xs) bs t u = let p = split a (all xs) t in both a (all (xs ++ bs)) (p .0) (join xs bs (p .1) u)
 
 pub not-ok : {A E : Type 0} (e : E) (a : A) → Err e ≡ Ok a → ⊥
 not-ok e a h = let z : _≡_ {A = ℕ} 0 1 = cc in omega arith
@@ -70,32 +77,9 @@ sound-passed (c ∷ cs) t = go (c .0) (λ h. sound-passed cs h) t
 pub passed-next : {B : Type 0} (cs : List Check) (f : Unit {0} → Result B Cause) (b : B) → (passed cs next f) ≡ Ok b → T (sound cs) × (f tt ≡ Ok b)
 passed-next cs f b e = let h = next-ok (passed cs) f b e in (passed-sound cs (h .1), h .2)
 
--- the same where the checks give way to a value
-pub given-next : {A B : Type 0} (cs : List Check) (a : A) (f : A → Result B Cause) (b : B) → ((passed cs next λ _. Ok a) next f) ≡ Ok b → T (sound cs) × (f a ≡ Ok b)
-given-next cs a f b e =
-    let h = next-ok (passed cs next λ _. Ok a) f b e in
-    let k = passed-next cs (λ _. Ok a) (h .0) (h .1) in
-    let q : a ≡ h .0 = cc (k .1) in
-    (k .0, ap f q ∙ h .2)
-
 -- and the other way round: checks whose tests pass give way to what follows
 pub step-passed : {B : Type 0} (cs : List Check) (f : Unit {0} → Result B Cause) → T (sound cs) → (passed cs next f) ≡ f tt
 step-passed cs f t = rw (sound-passed cs t) refl
-
-pub step-given : {A B : Type 0} (cs : List Check) (a : A) (f : A → Result B Cause) → T (sound cs) → ((passed cs next λ _. Ok a) next f) ≡ f a
-step-given cs a f t = rw (sound-passed cs t) refl
-
--- ---- a finite field
-
-pub field-next : {B : Type 0} (ws : List ℕ) (p : Place) (f : Float → Result B Cause) (b : B) → (finite-field ws p next f) ≡ Ok b → T (finite (real-at ws p)) × (f (real-at ws p) ≡ Ok b)
-field-next ws p f b e = go (finite (real-at ws p)) e
-  where
-    go : (c : Bool) → (cond c (Ok (real-at ws p)) (Err (NotFinite p)) next f) ≡ Ok b → T c × (f (real-at ws p) ≡ Ok b)
-    go true h = (tt, h)
-    go false h = absurd (not-ok (NotFinite p) b h)
-
-pub step-field : {B : Type 0} (ws : List ℕ) (p : Place) (f : Float → Result B Cause) → T (finite (real-at ws p)) → (finite-field ws p next f) ≡ f (real-at ws p)
-step-field ws p f t = rw (is-true (finite (real-at ws p)) t) refl
 
 -- ---- refusals of a call without levels, and words of the right length
 
@@ -116,3 +100,29 @@ wrote ws a = go (eqb (length ws) block-length) a
     go : (b : Bool) → _≡_ {A = Result (Unit {0}) Refusal} (Ok tt) (cond b (Ok tt) (Err (refused WrongLength))) → b ≡ true
     go true h = refl
     go false h = absurd (not-ok (refused WrongLength) tt (sym h))
+
+-- ---- one check after another
+
+abbrev no-check : Check
+no-check = (false, WrongLength)
+
+left-from : (cs : List Check) (i : ℕ) → i < length cs → passed (drop i cs) ≡ cond (getD cs i no-check .0) (passed (drop (i + 1) cs)) (Err (getD cs i no-check .1))
+left-from cs i h = ap passed (drop-cons cs i no-check h) ∙ (λ k. cond (getD cs i no-check .0) (passed (drop (sym (add-one i) k) cs)) (Err (getD cs i no-check .1)))
+
+-- a check that passes leaves the decision to what follows, and one that fails takes it
+pub check-passes : (cs : List Check) (i : ℕ) (a : Unit {0}) → i < length cs → _≡_ {A = Result (Unit {0}) Cause} (cond (getD cs i no-check .0) (Ok tt) (Err (getD cs i no-check .1))) (Ok a) → passed (drop (i + 1) cs) ≡ passed (drop i cs)
+check-passes cs i a h e = go (getD cs i no-check .0) (left-from cs i h) e
+  where
+    go : (b : Bool) → passed (drop i cs) ≡ cond b (passed (drop (i + 1) cs)) (Err (getD cs i no-check .1)) → _≡_ {A = Result (Unit {0}) Cause} (cond b (Ok tt) (Err (getD cs i no-check .1))) (Ok a) → passed (drop (i + 1) cs) ≡ passed (drop i cs)
+    go true l k = sym l
+    go false l k = absurd (not-ok (getD cs i no-check .1) a k)
+
+pub check-fails : (cs : List Check) (i : ℕ) (x : Cause) → i < length cs → _≡_ {A = Result (Unit {0}) Cause} (cond (getD cs i no-check .0) (Ok tt) (Err (getD cs i no-check .1))) (Err x) → Err x ≡ passed (drop i cs)
+check-fails cs i x h e = go (getD cs i no-check .0) (left-from cs i h) e
+  where
+    go : (b : Bool) → passed (drop i cs) ≡ cond b (passed (drop (i + 1) cs)) (Err (getD cs i no-check .1)) → _≡_ {A = Result (Unit {0}) Cause} (cond b (Ok tt) (Err (getD cs i no-check .1))) (Err x) → Err x ≡ passed (drop i cs)
+    go true l k = absurd (not-ok x tt (sym k))
+    go false l k = sym k ∙ sym l
+
+pub none-left : (cs : List Check) (i : ℕ) → i ≡ length cs → Ok tt ≡ passed (drop i cs)
+none-left cs i e = sym (ap (λ (n : ℕ). passed (drop n cs)) e ∙ ap passed (drop-length cs))

@@ -14,7 +14,7 @@ use Rattle.terms.specs.declared.refusal.Cause.{Cause}
 use Rattle.terms.specs.declared.refusal.Cause.the-variants.{WrongLength, NotFinite, OutOfRange}
 use Rattle.terms.specs.declared.refusal.Refusal.{Refusal}
 use Rattle.terms.specs.Refusals.{refused}
-use Rattle.block.specs.Words.{block-length, real-at}
+use Rattle.block.specs.Words.{block-length}
 
 -- a test, with the cause of the refusal where it fails
 abbrev pub Check : Type 0
@@ -25,14 +25,17 @@ abbrev pub passed : List Check → Result Unit Cause
 passed [] = Ok tt
 passed (check ∷ rest) = cond (check .0) (passed rest) (Err (check .1))
 
--- whether every test passes
-abbrev pub sound : List Check → Bool
-sound [] = true
-sound (check ∷ rest) = check .0 && sound rest
-
 abbrev pub all : List Bool → Bool
 all [] = true
 all (b ∷ rest) = b && all rest
+
+-- whether every test of a list of checks passes
+abbrev pub tests : List Check → List Bool
+tests [] = []
+tests (check ∷ rest) = check .0 ∷ tests rest
+
+abbrev pub sound : List Check → Bool
+sound cs = all (tests cs)
 
 -- what follows an accepted step
 infixr 20 _next_
@@ -47,10 +50,6 @@ is-finite p x = (finite x, NotFinite p)
 -- the real x of a place lies in low..high
 abbrev pub is-in : Float → Float → Place → Float → Check
 is-in low high p x = (inside low high x, OutOfRange p)
-
--- the real of a field, refused where it is not finite
-abbrev pub finite-field : List ℕ → Place → Result Float Cause
-finite-field ws p = cond (finite (real-at ws p)) (Ok (real-at ws p)) (Err (NotFinite p))
 
 -- a cause as a refusal of a call without levels
 abbrev pub at-top : {A : Type 0} → Result A Cause → Result A Refusal

@@ -3,8 +3,7 @@ use mathlib.Core.List.{List, [], _∷_}
 use Prim.Native.Nat.{ℕ, _+_}
 use lib.ListN.{getD, set}
 use lib.Ieee.{Float}
-use Rattle.std.specs.declared.option.Option.{Option}
-use Rattle.reals.specs.Reals.{real-of, finite-real, low-word, high-word}
+use Rattle.reals.specs.Reals.{real-of, low-word, high-word}
 use Rattle.terms.specs.declared.place.Place.{Place}
 use Rattle.terms.specs.Refusals.{place-number}
 
@@ -19,10 +18,6 @@ word-at ws p = getD ws (place-number p) 0
 -- the real of a field: two words, low half first
 abbrev pub real-at : List ℕ → Place → Float
 real-at ws p = real-of (getD ws (place-number p) 0) (getD ws (place-number p + 1) 0)
-
--- that real where it is finite
-abbrev pub finite-at : List ℕ → Place → Option Float
-finite-at ws p = finite-real (getD ws (place-number p) 0) (getD ws (place-number p + 1) 0)
 
 -- the words with each offset of a list filled by the word beside it, in order
 abbrev pub fill : List (ℕ × ℕ) → List ℕ → List ℕ

@@ -1,7 +1,7 @@
 // Reading and writing the words of single fields.
 ghost use mathlib.Core.Path.{_≡_};
 ghost use lib.ListN.{getD, set};
-ghost use Rattle.block.specs.Words.{word-at, finite-at, fill, one-word, two-words};
+ghost use Rattle.block.specs.Words.{word-at, real-at, fill, one-word, two-words};
 use reals::words::from_halves;
 use reals::words::to_halves;
 use terms::place::Place;
@@ -27,9 +27,9 @@ pub fn word_at(words: &[u16], place: Place) -> u16
     word(words, usize::from(place.number()))
 }
 
-// The real of a field, or nothing where it is not finite.
-pub fn real_at(words: &[u16], place: Place) -> Option<f32>
-    ensures { λ r. ⌜ r ≡ finite-at (now (words .entry)) place ⌝ }
+// The real of a field, finite or not.
+pub fn real_at(words: &[u16], place: Place) -> f32
+    ensures { λ r. ⌜ r ≡ real-at (now (words .entry)) place ⌝ }
 {
     let offset = usize::from(place.number());
     from_halves(word(words, offset), word(words, offset + 1))

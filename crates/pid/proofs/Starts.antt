@@ -11,11 +11,13 @@ use Rattle.reals.specs.Numbers.{zero, hundred, bottom, top, least, most, narrow
 use Rattle.reals.specs.Reals.{brought, inside}
 use Rattle.reals.proofs.OrderLaws.{bring-low, bring-high}
 use Rattle.reals.proofs.Finite.{sub-finite, over-span-finite, mul-number}
-use Rattle.block.proofs.Passing.{both, split}
+use Rattle.block.specs.Checks.{tests}
+use Rattle.block.proofs.Passing.{both, spread, gather, front, join}
 use Rattle.block.specs.declared.start.Start.{Start}
 use Rattle.block.specs.declared.start.Start.the-variants.{Cold, Warm}
 use Rattle.pid_fields.specs.declared.fields.Fields.{Fields}
-use Rattle.pid_fields.specs.Checks.{periods, good, good-e2}
+use Rattle.pid_fields.specs.Checks.{periods, finite-checks, range-checks, relation-checks, past-held, good, good-e2}
+use lib.ListN.{take, drop}
 use Rattle.pid.specs.Starting.{percent-of, cold-fields, started-fields}
 use Rattle.pid_fields.proofs.Goodness.{Good, goodness, is-good, range}
 
@@ -38,20 +40,14 @@ record Measuring (f : Fields) : Type 0 where
 
 measuring : (f : Fields) → Good f → Measuring f
 measuring f g =
-    let a = split (inside bottom top (f .mv)) _ (g .ranges) in
-    let b = split (inside bottom top (f .bounds .mh)) _ (a .1) in
-    let c = split (inside bottom top (f .bounds .ml)) _ (b .1) in
-    let d = split (inside least most (f .bounds .rh)) _ (c .1) in
-    let e = split (inside least most (f .bounds .rl)) true (d .1) in
-    let p = split (le (f .bounds .ml) (f .bounds .mh)) _ (g .related) in
-    let q = split (le narrowest (sub binary32 (f .bounds .rh) (f .bounds .rl))) _ (p .1) in
-    let r = split (le (div binary32 (f .tuning .ct) (f .settings .dt)) longest) _ (q .1) in
-    let s = split (inside (f .bounds .rl) (f .bounds .rh) (f .sv)) _ (r .1) in
+    let b = f .bounds in
+    let r = spread (tests (range-checks f)) (g .ranges) .1 .1 .1 in
+    let s = spread (tests (relation-checks f)) (g .related) .1 in
     record {
-      rh = range least most (f .bounds .rh) (d .0);
-      rl = range least most (f .bounds .rl) (e .0);
-      wide = q .0;
-      sv = range (f .bounds .rl) (f .bounds .rh) (f .sv) (s .0);
+      rh = range least most (b .rh) (r .0);
+      rl = range least most (b .rl) (r .1 .0);
+      wide = s .0;
+      sv = range (b .rl) (b .rh) (f .sv) (s .1 .1 .0);
     }
 
 zero-hundred : T (le zero hundred)
@@ -98,28 +94,22 @@ some-scan ct dt = lt→ltb 0 (periods ct dt) (omega arith)
 good-cold : (f : Fields) → T (good f) → T (good (cold-fields f))
 good-cold f t =
     let g = goodness f t in
-    let past = split (finite (f .past .mvp)) _ (g .past) in
-    let kept = split (fits binary32 (f .past .mvp)) _ (g .past-kept) in
-    let p = split (le (f .bounds .ml) (f .bounds .mh)) _ (g .related) in
-    let q = split (le narrowest (sub binary32 (f .bounds .rh) (f .bounds .rl))) _ (p .1) in
-    let r = split (le (div binary32 (f .tuning .ct) (f .settings .dt)) longest) _ (q .1) in
-    let s = split (inside (f .bounds .rl) (f .bounds .rh) (f .sv)) _ (r .1) in
-    let n = some-scan (f .tuning .ct) (f .settings .dt) in
+    let c = cold-fields f in
     let z = zero-finite in
     let h = zero-held in
-    is-good (cold-fields f)
+    let kept = tests (finite-checks f) in
+    let new = drop 14 (tests (finite-checks c)) in
+    let s = spread (tests (relation-checks f)) (g .related) in
+    let n = some-scan (f .tuning .ct) (f .settings .dt) in
+    is-good c
     record {
       settings = g .settings;
-      signals = g .signals;
-      bounds = g .bounds;
-      tuning = g .tuning;
-      past = both _ _ (past .0) (both _ _ z (both _ _ z (both _ _ z (both _ _ z (both _ true z tt)))));
+      reals = join (take 14 kept) new (front 14 kept (g .reals)) (gather new (z, (z, (z, (z, (z, tt))))));
       ranges = g .ranges;
-      tuned = g .tuned;
-      related = both _ _ (p .0) (both _ _ (q .0) (both _ _ (r .0) (both _ _ (s .0) (both _ true n tt))));
+      related = gather (tests (relation-checks c)) (s .0, (s .1 .0, (s .1 .1 .0, (s .1 .1 .1 .0, (n, tt)))));
       kept = g .kept;
       tuning-kept = g .tuning-kept;
-      past-kept = both _ _ (kept .0) (both _ _ h (both _ _ h (both _ _ h (both _ _ h (both _ true h tt)))));
+      past-kept = gather (past-held (c .past)) (spread (past-held (f .past)) (g .past-kept) .0, (h, (h, (h, (h, (h, tt))))));
     }
 
 pub good-started : (s : Start) (f : Fields) → T (good f) → T (good (started-fields s f))

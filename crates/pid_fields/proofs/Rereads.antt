@@ -9,51 +9,47 @@ use lib.Ieee.{Float, binary32, fits}
 use lib.Ieee.Fits.{eq→eqb}
 use Rattle.std.specs.declared.option.Option.{Option}
 use Rattle.std.specs.declared.option.Option.the-variants.{Some}
-use Rattle.std.specs.declared.result.Result.{Result}
 use Rattle.std.specs.declared.result.Result.the-variants.{Ok}
 use Rattle.terms.specs.declared.mode.Mode.{Mode}
 use Rattle.terms.specs.declared.place.Place.{Place}
 use Rattle.terms.specs.declared.place.Place.the-variants as at
 use Rattle.terms.specs.Refusals.{place-number}
-use Rattle.terms.specs.declared.refusal.Cause.{Cause}
 use Rattle.reals.specs.Reals.{low-word, high-word}
 use Rattle.block.specs.Words.{word-at, real-at, fill}
 use Rattle.block.specs.Key.{key-valid, mode-in, mode-word}
-use Rattle.block.specs.Checks.{length-checks, sound, _next_}
-use Rattle.block.proofs.Passing.{both, split, spread, step-passed, step-given}
-use Rattle.block.proofs.Filling.{look, Agrees, fill-agrees, join, all-agree, Sixteen, real-kept, word-kept, fill-length}
+use Rattle.block.specs.Checks.{length-checks, sound}
+use Rattle.block.proofs.Passing.{both, split, spread, step-passed}
+use Rattle.block.proofs.Filling.{look, Agrees, fill-agrees, drop-agrees, all-agree, Sixteen, real-kept, word-kept, fill-length}
 use Rattle.block.proofs.Keys.{named-word, word-named}
 use Rattle.pid_fields.specs.declared.fields.Settings.{Settings}
 use Rattle.pid_fields.specs.declared.fields.Fields.{Fields}
-use Rattle.pid_fields.specs.Checks.{settings-checks, signals-finite, bounds-finite, tuning-finite, past-finite, bounds-ranges, tuning-ranges, relation-checks, held, tuning-held, past-held, good}
-use Rattle.pid_fields.specs.Reading.{bounds-of, tuning-of, past-of, carried, checked-of}
-use Rattle.pid_fields.specs.Writing.{state-words, bounds-words, tuning-words, past-words, copy-words, named-words, filled, with-copy}
+use Rattle.pid_fields.specs.Checks.{settings-checks, finite-checks, range-checks, relation-checks, held, tuning-held, past-held, good}
+use Rattle.pid_fields.specs.Reading.{bounds-of, tuning-of, past-of, mode-named, or-man, fields-of, mode-checks, checked-of}
+use Rattle.pid_fields.specs.Writing.{copy-words, named-words, filled, with-copy}
 use Rattle.pid_fields.proofs.Goodness.{Good, goodness}
-use Rattle.pid_fields.proofs.Accepts.{fields-of, Accepted, accepted}
+use Rattle.pid_fields.proofs.Accepts.{Accepted, accepted}
+use Rattle.std.specs.Options.{isSome}
+use mathlib.Core.Bool.{_&&_}
 
 -- ---- what was read, written
 
-past-agreed : (ws : List ℕ) (st : Settings) (f : Fields) → Sixteen ws → Accepted ws st f → Agrees (past-words (past-of ws)) ws
-past-agreed ws st f b a = all-agree ws b (at.Mvp ∷ at.B ∷ at.Measured ∷ at.Measured1 ∷ at.Measured2 ∷ at.LastDv ∷ []) (a .past)
+-- the places of the reals, offsets rising
+abbrev real-places : List Place
+real-places =
+    at.Mv ∷ at.Sv ∷ at.Mh ∷ at.Ml ∷ at.Rh ∷ at.Rl ∷ at.Ct ∷ at.Dml ∷ at.P ∷ at.Ti ∷ at.Td ∷ at.Gw ∷ at.Gg
+    ∷ at.Mvp ∷ at.B ∷ at.Measured ∷ at.Measured1 ∷ at.Measured2 ∷ at.LastDv ∷ []
 
 -- what was read fills the named words with what they hold
-agreed : (ws : List ℕ) (st : Settings) (f : Fields) → Sixteen ws → Accepted ws st f → Agrees (named-words (fields-of ws st (f .mode))) ws
+agreed : (ws : List ℕ) (st : Settings) (f : Fields) → Sixteen ws → Accepted ws st f → Agrees (named-words (fields-of ws st)) ws
 agreed ws st f b a =
-    let m : mode-word (st .key) (f .mode) ≡ getD ws 1 0 = sym (named-word (st .key) (getD ws 1 0) (f .mode) (a .mode)) in
-    let g = fields-of ws st (f .mode) in
-    let s = all-agree ws b (at.Mv ∷ at.Sv ∷ []) (a .signals) in
-    let tuning = tuning-words (tuning-of ws) in
-    let past = past-words (past-of ws) in
-    let bounds = bounds-words (bounds-of ws) in
-    join (state-words g) (bounds ++ (tuning ++ past)) ws (m, (refl, (refl, (s .0, (s .1 .0, (s .1 .1 .0, (s .1 .1 .1 .0, (refl, tt))))))))
-    (join bounds (tuning ++ past) ws (all-agree ws b (at.Mh ∷ at.Ml ∷ at.Rh ∷ at.Rl ∷ []) (a .bounds))
-    (join tuning past ws (all-agree ws b (at.Ct ∷ at.Dml ∷ at.P ∷ at.Ti ∷ at.Td ∷ at.Gw ∷ at.Gg ∷ []) (a .tuning)) (past-agreed ws st f b a)))
+    let m : mode-word (st .key) (or-man (mode-named ws st)) ≡ getD ws 1 0 = sym (named-word (st .key) (getD ws 1 0) (or-man (mode-named ws st)) (a .mode)) in
+    (m, (refl, (refl, (refl, all-agree ws b real-places (a .reals)))))
 
 pub same-words : (ws : List ℕ) (st : Settings) (f : Fields) → Sixteen ws → checked-of ws st ≡ Ok f → filled f ws ≡ with-copy ws
 same-words ws st f b e =
     let a = accepted ws st f e in
-    let g = fields-of ws st (f .mode) in
-    let last = past-agreed ws st f b a .1 .1 .1 .1 .1 .1 .1 .1 .1 .1 in
+    let g = fields-of ws st in
+    let last = drop-agrees 40 (named-words g) ws (agreed ws st f b a) in
     subst (λ (x : Fields). filled x ws ≡ with-copy ws) (a .fields)
     (ap (λ (v : List ℕ). fill (copy-words (g .past)) v) (fill-agrees (named-words g) ws (agreed ws st f b a)) ∙ (λ i. set (set ws 16 (last .0 i)) 17 (last .1 .0 i)))
 
@@ -61,9 +57,6 @@ same-words ws st f b e =
 
 abbrev all-words : Fields → List (ℕ × ℕ)
 all-words f = named-words f ++ copy-words (f .past)
-
-carried-step : {B : Type 0} (o : Option Mode) (m : Mode) (k : Mode → Result B Cause) → o ≡ Some m → (carried o next k) ≡ k m
-carried-step o m k e = rw e refl
 
 module _ (f : Fields) (ws : List ℕ) (whole : length ws ≡ 128) (ok : T (good f)) where
   g : Good f
@@ -116,42 +109,42 @@ module _ (f : Fields) (ws : List ℕ) (whole : length ws ≡ 128) (ok : T (good 
       let dv = kept at.LastDv (p .dv) (lit< tt) (k .1 .1 .1 .1 .1 .0) refl refl in
       λ i. record { mvp = mvp i; b = b i; measured = m i; measured1 = m1 i; measured2 = m2 i; dv = dv i }
 
-  -- the fields that the written words hold
-  fields : fields-of w (f .settings) (f .mode) ≡ f
-  fields =
-      let k = spread (held f) (g .kept) in
-      let alm = word at.Alm (f .alm) (lit< tt) refl in
-      let inh = word at.Inh (f .inh) (lit< tt) refl in
-      let counter = word at.Counter (f .counter) (lit< tt) refl in
-      let mv = kept at.Mv (f .mv) (lit< tt) (k .0) refl refl in
-      let sv = kept at.Sv (f .sv) (lit< tt) (k .1 .0) refl refl in
-      λ i. record { mode = f .mode; alm = alm i; inh = inh i; mv = mv i; sv = sv i; counter = counter i; bounds = bounds i; tuning = tuning i; past = past i; settings = f .settings }
-
-  mode : mode-in (f .settings .key) (word-at w at.Mode) ≡ Some (f .mode)
+  mode : mode-named w (f .settings) ≡ Some (f .mode)
   mode =
       let key = f .settings .key in
       let v : T (key-valid key) = split (key-valid key) _ (g .settings) .0 in
       ap (mode-in key) (word at.Mode (mode-word key (f .mode)) (lit< tt) refl) ∙ word-named key (f .mode) v
 
+  -- the fields that the written words hold
+  fields : fields-of w (f .settings) ≡ f
+  fields =
+      let k = spread (held f) (g .kept) in
+      let m : or-man (mode-named w (f .settings)) ≡ f .mode = ap or-man mode in
+      let alm = word at.Alm (f .alm) (lit< tt) refl in
+      let inh = word at.Inh (f .inh) (lit< tt) refl in
+      let counter = word at.Counter (f .counter) (lit< tt) refl in
+      let mv = kept at.Mv (f .mv) (lit< tt) (k .0) refl refl in
+      let sv = kept at.Sv (f .sv) (lit< tt) (k .1 .0) refl refl in
+      λ i. record { mode = m i; alm = alm i; inh = inh i; mv = mv i; sv = sv i; counter = counter i; bounds = bounds i; tuning = tuning i; past = past i; settings = f .settings }
+
   -- what holds of the fields holds of those that are read again
-  moved : (P : Fields → Type 0) → P f → P (fields-of w (f .settings) (f .mode))
+  moved : (P : Fields → Type 0) → P f → P (fields-of w (f .settings))
   moved P h = subst P (sym fields) h
 
   long : T (sound (length-checks w))
   long = both (eqb (length w) 128) true (eq→eqb (fill-length (copy-words (f .past)) (fill (named-words f) ws) ∙ fill-length (named-words f) ws ∙ whole)) tt
 
+  carried : T (sound (mode-checks w (f .settings)))
+  carried = subst (λ (o : Option Mode). T (isSome o && true)) (sym mode) tt
+
   pub same-fields : checked-of w (f .settings) ≡ Ok f
   same-fields =
       let st = f .settings in
-      let s : Float × Float = (real-at w at.Mv, real-at w at.Sv) in
+      let again = fields-of w st in
       step-passed (length-checks w) _ long
       ∙ step-passed (settings-checks st) _ (g .settings)
-      ∙ step-given (signals-finite (real-at w at.Mv) (real-at w at.Sv)) s _ (moved (λ x. T (sound (signals-finite (x .mv) (x .sv)))) (g .signals))
-      ∙ step-given (bounds-finite (bounds-of w)) (bounds-of w) _ (moved (λ x. T (sound (bounds-finite (x .bounds)))) (g .bounds))
-      ∙ step-given (tuning-finite (tuning-of w)) (tuning-of w) _ (moved (λ x. T (sound (tuning-finite (x .tuning)))) (g .tuning))
-      ∙ step-given (past-finite (past-of w)) (past-of w) _ (moved (λ x. T (sound (past-finite (x .past)))) (g .past))
-      ∙ carried-step (mode-in (st .key) (word-at w at.Mode)) (f .mode) _ mode
-      ∙ step-passed (bounds-ranges (real-at w at.Mv) (bounds-of w)) _ (moved (λ x. T (sound (bounds-ranges (x .mv) (x .bounds)))) (g .ranges))
-      ∙ step-passed (tuning-ranges (tuning-of w)) _ (moved (λ x. T (sound (tuning-ranges (x .tuning)))) (g .tuned))
-      ∙ step-passed (relation-checks (fields-of w st (f .mode))) _ (moved (λ x. T (sound (relation-checks x))) (g .related))
+      ∙ step-passed (finite-checks again) _ (moved (λ x. T (sound (finite-checks x))) (g .reals))
+      ∙ step-passed (mode-checks w st) _ carried
+      ∙ step-passed (range-checks again) _ (moved (λ x. T (sound (range-checks x))) (g .ranges))
+      ∙ step-passed (relation-checks again) _ (moved (λ x. T (sound (relation-checks x))) (g .related))
       ∙ ap Ok fields

@@ -9,7 +9,6 @@ use Rattle.terms.specs.declared.refusal.Cause.the-variants.{OutOfRange, LimitsC
 use Rattle.block.specs.Key.{key-valid}
 use Rattle.block.specs.Checks.{Check, is-finite, is-in, sound, all}
 use Rattle.pid_fields.specs.declared.fields.Settings.{Settings}
-use Rattle.pid_fields.specs.declared.fields.Bounds.{Bounds}
 use Rattle.pid_fields.specs.declared.fields.Tuning.{Tuning}
 use Rattle.pid_fields.specs.declared.fields.Past.{Past}
 use Rattle.pid_fields.specs.declared.fields.Fields.{Fields}
@@ -35,52 +34,44 @@ settings-checks st =
     ∷ []
 
 -- every real finite, offsets rising
-abbrev pub signals-finite : Float → Float → List Check
-signals-finite mv sv = is-finite at.Mv mv ∷ is-finite at.Sv sv ∷ []
-
-abbrev pub bounds-finite : Bounds → List Check
-bounds-finite b = is-finite at.Mh (b .mh) ∷ is-finite at.Ml (b .ml) ∷ is-finite at.Rh (b .rh) ∷ is-finite at.Rl (b .rl) ∷ []
-
-abbrev pub tuning-finite : Tuning → List Check
-tuning-finite t =
-    is-finite at.Ct (t .ct)
-    ∷ is-finite at.Dml (t .dml)
-    ∷ is-finite at.P (t .p)
-    ∷ is-finite at.Ti (t .ti)
-    ∷ is-finite at.Td (t .td)
-    ∷ is-finite at.Gw (t .gw)
-    ∷ is-finite at.Gg (t .gg)
-    ∷ []
-
-abbrev pub past-finite : Past → List Check
-past-finite p =
-    is-finite at.Mvp (p .mvp)
-    ∷ is-finite at.B (p .b)
-    ∷ is-finite at.Measured (p .measured)
-    ∷ is-finite at.Measured1 (p .measured1)
-    ∷ is-finite at.Measured2 (p .measured2)
-    ∷ is-finite at.LastDv (p .dv)
+abbrev pub finite-checks : Fields → List Check
+finite-checks f =
+    is-finite at.Mv (f .mv)
+    ∷ is-finite at.Sv (f .sv)
+    ∷ is-finite at.Mh (f .bounds .mh)
+    ∷ is-finite at.Ml (f .bounds .ml)
+    ∷ is-finite at.Rh (f .bounds .rh)
+    ∷ is-finite at.Rl (f .bounds .rl)
+    ∷ is-finite at.Ct (f .tuning .ct)
+    ∷ is-finite at.Dml (f .tuning .dml)
+    ∷ is-finite at.P (f .tuning .p)
+    ∷ is-finite at.Ti (f .tuning .ti)
+    ∷ is-finite at.Td (f .tuning .td)
+    ∷ is-finite at.Gw (f .tuning .gw)
+    ∷ is-finite at.Gg (f .tuning .gg)
+    ∷ is-finite at.Mvp (f .past .mvp)
+    ∷ is-finite at.B (f .past .b)
+    ∷ is-finite at.Measured (f .past .measured)
+    ∷ is-finite at.Measured1 (f .past .measured1)
+    ∷ is-finite at.Measured2 (f .past .measured2)
+    ∷ is-finite at.LastDv (f .past .dv)
     ∷ []
 
 -- ranges, offsets rising, SV and the counter left for the end
-abbrev pub bounds-ranges : Float → Bounds → List Check
-bounds-ranges mv b =
-    is-in bottom top at.Mv mv
-    ∷ is-in bottom top at.Mh (b .mh)
-    ∷ is-in bottom top at.Ml (b .ml)
-    ∷ is-in least most at.Rh (b .rh)
-    ∷ is-in least most at.Rl (b .rl)
-    ∷ []
-
-abbrev pub tuning-ranges : Tuning → List Check
-tuning-ranges t =
-    is-in zero most at.Ct (t .ct)
-    ∷ is-in zero hundred at.Dml (t .dml)
-    ∷ is-in zero most at.P (t .p)
-    ∷ is-in zero most at.Ti (t .ti)
-    ∷ is-in zero most at.Td (t .td)
-    ∷ is-in zero hundred at.Gw (t .gw)
-    ∷ is-in zero most at.Gg (t .gg)
+abbrev pub range-checks : Fields → List Check
+range-checks f =
+    is-in bottom top at.Mv (f .mv)
+    ∷ is-in bottom top at.Mh (f .bounds .mh)
+    ∷ is-in bottom top at.Ml (f .bounds .ml)
+    ∷ is-in least most at.Rh (f .bounds .rh)
+    ∷ is-in least most at.Rl (f .bounds .rl)
+    ∷ is-in zero most at.Ct (f .tuning .ct)
+    ∷ is-in zero hundred at.Dml (f .tuning .dml)
+    ∷ is-in zero most at.P (f .tuning .p)
+    ∷ is-in zero most at.Ti (f .tuning .ti)
+    ∷ is-in zero most at.Td (f .tuning .td)
+    ∷ is-in zero hundred at.Gw (f .tuning .gw)
+    ∷ is-in zero most at.Gg (f .tuning .gg)
     ∷ []
 
 -- ML at most MH, RH − RL at least 1/1024, CT ÷ ΔT at most 32767; then SV and the counter
@@ -114,14 +105,10 @@ past-held p =
 unfoldable pub good : Fields → Bool
 good f =
     sound (settings-checks (f .settings))
-    && (sound (signals-finite (f .mv) (f .sv))
-    && (sound (bounds-finite (f .bounds))
-    && (sound (tuning-finite (f .tuning))
-    && (sound (past-finite (f .past))
-    && (sound (bounds-ranges (f .mv) (f .bounds))
-    && (sound (tuning-ranges (f .tuning))
+    && (sound (finite-checks f)
+    && (sound (range-checks f)
     && (sound (relation-checks f)
-    && (all (held f) && (all (tuning-held (f .tuning)) && all (past-held (f .past)))))))))))
+    && (all (held f) && (all (tuning-held (f .tuning)) && all (past-held (f .past)))))))
 
 -- E2, which no block holds: a remote value, or the setpoint in percent
 unfoldable pub good-e2 : Float → Bool

@@ -17,9 +17,9 @@ state-words f =
     one-word at.Mode (mode-word (f .settings .key) (f .mode))
     ++ (one-word at.Alm (f .alm)
     ++ (one-word at.Inh (f .inh)
+    ++ (one-word at.Counter (f .counter)
     ++ (two-words at.Mv (f .mv)
-    ++ (two-words at.Sv (f .sv)
-    ++ one-word at.Counter (f .counter)))))
+    ++ two-words at.Sv (f .sv)))))
 
 abbrev pub bounds-words : Bounds → List (ℕ × ℕ)
 bounds-words b = two-words at.Mh (b .mh) ++ (two-words at.Ml (b .ml) ++ (two-words at.Rh (b .rh) ++ two-words at.Rl (b .rl)))

@@ -1,13 +1,10 @@
-// The checks of a block's values, each in the order of reading.
+// The checks of a block's values, each table in the order of reading.
 ghost use mathlib.Core.Path.{_≡_};
 ghost use Rattle.block.specs.Checks.{passed};
-ghost use Rattle.pid_fields.specs.Checks.{periods as periods-of, period-ok, settings-checks, bounds-ranges, tuning-ranges, relation-checks};
-use crate::fields::Bounds;
+ghost use Rattle.pid_fields.specs.Checks.{periods as periods-of, period-ok, settings-checks, finite-checks, range-checks, relation-checks};
 use crate::fields::Fields;
 use crate::fields::Settings;
-use crate::fields::Tuning;
-use block::checks::in_range;
-use block::checks::refuse_unless;
+use block::checks::pass;
 use reals::numbers::BOTTOM;
 use reals::numbers::HUNDRED;
 use reals::numbers::LEAST;
@@ -16,8 +13,11 @@ use reals::numbers::MOST;
 use reals::numbers::NARROWEST;
 use reals::numbers::TOP;
 use reals::numbers::ZERO;
+use reals::order::within;
 use std::num::saturating_f32_to_u16;
 use terms::place::Place;
+use terms::refusal::Cause::NotFinite;
+use terms::refusal::Cause::OutOfRange;
 use terms::refusal::Cause;
 
 // N, the number of scans in a control period: the whole part of CT ÷ ΔT, or 1 where that is below 1.
@@ -36,34 +36,61 @@ fn is_scan_period(dt: f32) -> bool
 pub(crate) fn check_settings(s: Settings) -> Result<(), Cause>
     ensures { λ r. ⌜ r ≡ passed (settings-checks s) ⌝ }
 {
-    refuse_unless(s.key.is_valid(), Cause::OutOfRange(Place::ModeKey))?;
-    refuse_unless(s.dt.is_finite(), Cause::NotFinite(Place::ScanPeriod))?;
-    refuse_unless(is_scan_period(s.dt), Cause::OutOfRange(Place::ScanPeriod))?;
-    refuse_unless(s.md.is_finite(), Cause::NotFinite(Place::Md))?;
-    in_range(s.md, ZERO, MOST, Place::Md)?;
-    refuse_unless(s.pn <= 1, Cause::OutOfRange(Place::Pn))
+    pass(&[
+        (s.key.is_valid(), OutOfRange(Place::ModeKey)),
+        (s.dt.is_finite(), NotFinite(Place::ScanPeriod)),
+        (is_scan_period(s.dt), OutOfRange(Place::ScanPeriod)),
+        (s.md.is_finite(), NotFinite(Place::Md)),
+        (within(s.md, ZERO, MOST), OutOfRange(Place::Md)),
+        (s.pn <= 1, OutOfRange(Place::Pn)),
+    ])
 }
 
-pub(crate) fn check_bounds(mv: f32, b: Bounds) -> Result<(), Cause>
-    ensures { λ r. ⌜ r ≡ passed (bounds-ranges mv b) ⌝ }
+pub(crate) fn check_finite(f: Fields) -> Result<(), Cause>
+    ensures { λ r. ⌜ r ≡ passed (finite-checks f) ⌝ }
 {
-    in_range(mv, BOTTOM, TOP, Place::Mv)?;
-    in_range(b.mh, BOTTOM, TOP, Place::Mh)?;
-    in_range(b.ml, BOTTOM, TOP, Place::Ml)?;
-    in_range(b.rh, LEAST, MOST, Place::Rh)?;
-    in_range(b.rl, LEAST, MOST, Place::Rl)
+    pass(&[
+        (f.mv.is_finite(), NotFinite(Place::Mv)),
+        (f.sv.is_finite(), NotFinite(Place::Sv)),
+        (f.bounds.mh.is_finite(), NotFinite(Place::Mh)),
+        (f.bounds.ml.is_finite(), NotFinite(Place::Ml)),
+        (f.bounds.rh.is_finite(), NotFinite(Place::Rh)),
+        (f.bounds.rl.is_finite(), NotFinite(Place::Rl)),
+        (f.tuning.ct.is_finite(), NotFinite(Place::Ct)),
+        (f.tuning.dml.is_finite(), NotFinite(Place::Dml)),
+        (f.tuning.p.is_finite(), NotFinite(Place::P)),
+        (f.tuning.ti.is_finite(), NotFinite(Place::Ti)),
+        (f.tuning.td.is_finite(), NotFinite(Place::Td)),
+        (f.tuning.gw.is_finite(), NotFinite(Place::Gw)),
+        (f.tuning.gg.is_finite(), NotFinite(Place::Gg)),
+        (f.past.mvp.is_finite(), NotFinite(Place::Mvp)),
+        (f.past.b.is_finite(), NotFinite(Place::B)),
+        (f.past.measured.is_finite(), NotFinite(Place::Measured)),
+        (f.past.measured1.is_finite(), NotFinite(Place::Measured1)),
+        (f.past.measured2.is_finite(), NotFinite(Place::Measured2)),
+        (f.past.dv.is_finite(), NotFinite(Place::LastDv)),
+    ])
 }
 
-pub(crate) fn check_tuning(t: Tuning) -> Result<(), Cause>
-    ensures { λ r. ⌜ r ≡ passed (tuning-ranges t) ⌝ }
+pub(crate) fn check_ranges(f: Fields) -> Result<(), Cause>
+    ensures { λ r. ⌜ r ≡ passed (range-checks f) ⌝ }
 {
-    in_range(t.ct, ZERO, MOST, Place::Ct)?;
-    in_range(t.dml, ZERO, HUNDRED, Place::Dml)?;
-    in_range(t.p, ZERO, MOST, Place::P)?;
-    in_range(t.ti, ZERO, MOST, Place::Ti)?;
-    in_range(t.td, ZERO, MOST, Place::Td)?;
-    in_range(t.gw, ZERO, HUNDRED, Place::Gw)?;
-    in_range(t.gg, ZERO, MOST, Place::Gg)
+    let b = f.bounds;
+    let t = f.tuning;
+    pass(&[
+        (within(f.mv, BOTTOM, TOP), OutOfRange(Place::Mv)),
+        (within(b.mh, BOTTOM, TOP), OutOfRange(Place::Mh)),
+        (within(b.ml, BOTTOM, TOP), OutOfRange(Place::Ml)),
+        (within(b.rh, LEAST, MOST), OutOfRange(Place::Rh)),
+        (within(b.rl, LEAST, MOST), OutOfRange(Place::Rl)),
+        (within(t.ct, ZERO, MOST), OutOfRange(Place::Ct)),
+        (within(t.dml, ZERO, HUNDRED), OutOfRange(Place::Dml)),
+        (within(t.p, ZERO, MOST), OutOfRange(Place::P)),
+        (within(t.ti, ZERO, MOST), OutOfRange(Place::Ti)),
+        (within(t.td, ZERO, MOST), OutOfRange(Place::Td)),
+        (within(t.gw, ZERO, HUNDRED), OutOfRange(Place::Gw)),
+        (within(t.gg, ZERO, MOST), OutOfRange(Place::Gg)),
+    ])
 }
 
 pub(crate) fn check_relations(f: Fields) -> Result<(), Cause>
@@ -72,12 +99,11 @@ pub(crate) fn check_relations(f: Fields) -> Result<(), Cause>
     let b = f.bounds;
     let ct = f.tuning.ct;
     let dt = f.settings.dt;
-    refuse_unless(b.ml <= b.mh, Cause::LimitsCrossed)?;
-    refuse_unless(NARROWEST <= b.rh - b.rl, Cause::SpanTooSmall)?;
-    refuse_unless(ct / dt <= LONGEST, Cause::PeriodTooLong)?;
-    in_range(f.sv, b.rl, b.rh, Place::Sv)?;
-    refuse_unless(
-        f.counter < periods(ct, dt),
-        Cause::OutOfRange(Place::Counter),
-    )
+    pass(&[
+        (b.ml <= b.mh, Cause::LimitsCrossed),
+        (NARROWEST <= b.rh - b.rl, Cause::SpanTooSmall),
+        (ct / dt <= LONGEST, Cause::PeriodTooLong),
+        (within(f.sv, b.rl, b.rh), OutOfRange(Place::Sv)),
+        (f.counter < periods(ct, dt), OutOfRange(Place::Counter)),
+    ])
 }

@@ -16,9 +16,9 @@ fn put_state(words: &mut [u16], f: Fields)
     put_word(words, Place::Mode, f.settings.key.word(f.mode));
     put_word(words, Place::Alm, f.alm);
     put_word(words, Place::Inh, f.inh);
+    put_word(words, Place::Counter, f.counter);
     put_real(words, Place::Mv, f.mv);
     put_real(words, Place::Sv, f.sv);
-    put_word(words, Place::Counter, f.counter);
 }
 
 fn put_bounds(words: &mut [u16], b: Bounds)

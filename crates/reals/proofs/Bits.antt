@@ -1,19 +1,17 @@
 -- Bit patterns of f32: below the infinity's, a pattern is a finite float's, and comes back from it. Assumes nothing.
-use mathlib.Core.Path.{_≡_, refl, sym, subst}
+use mathlib.Core.Path.{_≡_, refl, sym, subst, _∙_}
 use mathlib.Core.Bool.{Bool, true, false, not, cond, true≢false}
 use Prim.Native.Nat.{ℕ, zero, suc, _+_, _/_, _%_, _^_, _≤_, _<_}
 use native.Mathlib.Omega.{arith}
 use native.Mathlib.Nat.{div-lt-iff-lt-mul, lt-of-not-le}
-use lib.Dec.{T, eqb, ltb, not-T, T-not, ltb→lt, lt→ltb}
+use lib.Dec.{T, eqb, ltb}
 use lib.Pow.{pow-pos}
 use borrow.Author.Tests.{ne-eqb, eq-eqb}
 use lib.Ieee.{Float, Format, nan, inf, fin, binary32, prec, low, odd, hid, ones, top, ofFields, ofBits, toBits, nanBits, isNan, fits}
-use lib.Ieee.Bits.{ofBits-toBits, toBits-ofBits, toBits-lt, nanBits-is, is-true, is-false}
+use lib.Ieee.Bits.{ofBits-toBits, toBits-ofBits, toBits-lt, nanBits-is, nanBits-above}
 use Rattle.std.specs.Floats.{finite}
 use Rattle.std.proofs.num.Patterns.{below-the-nans}
-use Rattle.std.proofs.num.Compares.{passes, fails}
-use Rattle.std.specs.declared.option.Option.the-variants.{Some, None}
-use Rattle.reals.specs.Reals.{pattern, real-of, finite-real, low-word, high-word}
+use Rattle.reals.specs.Reals.{pattern, real-of, low-word, high-word}
 use Rattle.reals.specs.Laws.{PatternKept}
 
 odd-finite : (d : ℕ) (s : Bool) (q k l : ℕ) → T (finite (odd d s q k l))
@@ -78,11 +76,18 @@ real-back x p = let e : pattern (low-word x) (high-word x) ≡ toBits binary32 x
 pub pattern-kept : (low high : ℕ) → low < 2 ^ 16 → high < 2 ^ 16 → PatternKept low high
 pattern-kept low high l h = record { finite-by = bits-finite (pattern low high); finite-only = finite-bits (pattern low high); low-kept = low-back low high l h; high-kept = high-back low high l h }
 
-pub plain-real : (low high : ℕ) → ltb (pattern low high % 0x8000_0000) 0x7f80_0000 ≡ true → finite-real low high ≡ Some (real-of low high)
-plain-real low high t = rw (is-true (finite (real-of low high)) (bits-finite (pattern low high) (ltb→lt _ _ (passes _ t)))) refl
+only-nan : (x : Float) → isNan x ≡ true → x ≡ nan
+unfolding isNan
+only-nan nan e = refl
+only-nan (inf s) e = absurd (true≢false (sym e))
+only-nan (fin s m g) e = absurd (true≢false (sym e))
 
-pub other-real : (low high : ℕ) → ltb (pattern low high % 0x8000_0000) 0x7f80_0000 ≡ false → finite-real low high ≡ None
-other-real low high t = rw (is-false (finite (real-of low high)) (not-T _ (λ f. T-not (ltb (pattern low high % 0x8000_0000) 0x7f80_0000) (fails _ t) (lt→ltb _ _ (finite-bits (pattern low high) f))))) refl
+-- a pattern above infinity's is NaN's, and no other is
+pub nan-real : (b : ℕ) → ltb 0x7f80_0000 (b % 0x8000_0000) ≡ true → ofBits binary32 b ≡ nan
+nan-real b t = only-nan (ofBits binary32 b) (sym (nanBits-is binary32 b) ∙ nanBits-above binary32 b ∙ t)
+
+pub other-real : (b : ℕ) → ltb 0x7f80_0000 (b % 0x8000_0000) ≡ false → T (not (nanBits binary32 b))
+other-real b t = subst (λ (x : Bool). T (not x)) (sym (nanBits-above binary32 b ∙ t)) tt
 
 pub nan-bits : (x : Float) → true ≡ isNan x → toBits binary32 x ≡ 0x7fc0_0000
 unfolding isNan toBits

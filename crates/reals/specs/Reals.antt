@@ -3,9 +3,6 @@ use mathlib.Core.Bool.{Bool, true, false, cond, _&&_}
 use Prim.Native.Nat.{ℕ, suc, _+_, _*_, _/_, _%_, _^_}
 use lib.IntN.{ℤ, pos, negsuc, negℤ}
 use lib.Ieee.{Float, Format, nan, inf, fin, binary32, low, up, down, lt, le, add, sub, round, ofBits, toBits}
-use Rattle.std.specs.Floats.{finite}
-use Rattle.std.specs.declared.option.Option.{Option}
-use Rattle.std.specs.declared.option.Option.the-variants.{Some, None}
 
 -- x brought into low..high: low where x is below it, high where x is above it, and otherwise x
 abbrev pub brought : Float → Float → Float → Float
@@ -31,10 +28,6 @@ pattern low high = high * 65536 + low
 -- the real that two words hold
 abbrev pub real-of : ℕ → ℕ → Float
 real-of low high = ofBits binary32 (pattern low high)
-
--- that real where it is finite
-abbrev pub finite-real : ℕ → ℕ → Option Float
-finite-real low high = cond (finite (real-of low high)) (Some (real-of low high)) None
 
 -- the two words of a real
 abbrev pub low-word : Float → ℕ

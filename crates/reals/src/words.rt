@@ -3,11 +3,11 @@ ghost use mathlib.Core.Path.{_≡_};
 ghost use Prim.Native.Nat.{_%_, _/_};
 ghost use lib.Dec.{ltb};
 ghost use lib.Ieee.{binary32, toBits};
-ghost use Rattle.reals.specs.Reals.{pattern, finite-real, low-word, high-word};
+ghost use Rattle.reals.specs.Reals.{pattern, real-of, low-word, high-word};
 ghost use Rattle.reals.specs.Laws.{PatternKept, RealKept};
 
-// Patterns from this one on, the sign left out, are infinite or NaN.
-const INFINITE: u32 = 0x7f80_0000;
+// Infinity; patterns above it, the sign left out, are NaN.
+const INFINITY: u32 = 0x7f80_0000;
 
 // The pattern that stands for NaN.
 const NAN: u32 = 0x7fc0_0000;
@@ -25,22 +25,22 @@ fn joined(low: u16, high: u16) -> u32
     u32::from(high) * 0x1_0000 + u32::from(low)
 }
 
-fn is_finite_pattern(bits: u32) -> bool
-    ensures { λ r. ⌜ r ≡ ltb (bits % 0x8000_0000) 0x7f80_0000 ⌝ }
+fn is_nan_pattern(bits: u32) -> bool
+    ensures { λ r. ⌜ r ≡ ltb 0x7f80_0000 (bits % 0x8000_0000) ⌝ }
 {
-    bits % 0x8000_0000 < INFINITE
+    bits % 0x8000_0000 > INFINITY
 }
 
-// The real that two words hold, or nothing where it is not finite.
-pub fn from_halves(low: u16, high: u16) -> Option<f32>
-    ensures value { λ r. ⌜ r ≡ finite-real low high ⌝ }
+// The real that two words hold. Every pattern of a NaN gives NaN.
+pub fn from_halves(low: u16, high: u16) -> f32
+    ensures value { λ r. ⌜ r ≡ real-of low high ⌝ }
     ensures kept { λ _. ⌜ PatternKept low high ⌝ }
 {
     let bits = joined(low, high);
-    if is_finite_pattern(bits) {
-        Some(f32::from_bits(bits))
+    if is_nan_pattern(bits) {
+        f32::NAN
     } else {
-        None
+        f32::from_bits(bits)
     }
 }
 

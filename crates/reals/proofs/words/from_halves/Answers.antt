@@ -1,30 +1,25 @@
-use mathlib.Core.Path.{_≡_, sym}
+use mathlib.Core.Path.{_≡_, sym, ap}
 use mathlib.Core.Bool.{true, false}
-use Prim.Native.Nat.{_%_}
+use Prim.Native.Nat.{ℕ, _%_}
 use native.Mathlib.Omega.{arith}
 use lib.Dec.{ltb}
-use borrow.Author.Tests.{ltb-true}
+use lib.Ieee.{binary32, ofBits}
 use Rattle.reals.specs.Reals.{pattern}
-use Rattle.reals.proofs.Bits.{Plain, bits-no-nan, pattern-kept, plain-real, other-real}
+use Rattle.reals.proofs.Bits.{pattern-kept, nan-real, other-real}
 use Rattle.reals.proofs.words.from_halves.Needs as need
 
 pub float-from-bits-result : need.float-from-bits-result
 float-from-bits-result c =
-    let t : ltb (c .joined-bits .result % 0x8000_0000) 0x7f80_0000 ≡ true = cc in
-    let h : Plain (c .joined-bits .result) = omega (arith, ltb-true) in
-    bits-no-nan (c .joined-bits .result) h
+    let t : ltb 0x7f80_0000 (c .joined-bits .result % 0x8000_0000) ≡ false = cc in
+    other-real (c .joined-bits .result) t
 
-pub returns-then-is-finite-pattern : need.returns-then-is-finite-pattern
-returns-then-is-finite-pattern c =
+pub returns-then-is-nan-pattern : need.returns-then-is-nan-pattern
+unfolding ofBits
+returns-then-is-nan-pattern c =
     let low = c .args .low in
     let high = c .args .high in
-    let e = c .joined-bits .ensures in
-    let t : ltb (pattern low high % 0x8000_0000) 0x7f80_0000 ≡ true = cc in
-    record { value = rw e (sym (plain-real low high t)); kept = pattern-kept low high (omega arith) (omega arith) }
+    let t : ltb 0x7f80_0000 (pattern low high % 0x8000_0000) ≡ true = cc in
+    record { value = sym (nan-real (pattern low high) t); kept = pattern-kept low high (omega arith) (omega arith) }
 
-pub returns-else-is-finite-pattern : need.returns-else-is-finite-pattern
-returns-else-is-finite-pattern c =
-    let low = c .args .low in
-    let high = c .args .high in
-    let t : ltb (pattern low high % 0x8000_0000) 0x7f80_0000 ≡ false = cc in
-    record { value = sym (other-real low high t); kept = pattern-kept low high (omega arith) (omega arith) }
+pub returns-else-is-nan-pattern : need.returns-else-is-nan-pattern
+returns-else-is-nan-pattern c = record { value = ap (λ (b : ℕ). ofBits binary32 b) (c .joined-bits .ensures); kept = pattern-kept (c .args .low) (c .args .high) (omega arith) (omega arith) }
