@@ -193,7 +193,7 @@ fn show_real(rt: &LibcRuntime, row: Row, before: &[u16], after: &[u16]) -> Resul
     let offset = row.place.number();
     let (low, high) = halves(before, row.place);
     let (new_low, new_high) = halves(after, row.place);
-    let x = real_at(after, row.place).unwrap_or(f32::NAN);
+    let x = real_at(after, row.place);
     println!(
         rt,
         "{offset:>6}  {name:<11}  {low:04X} {high:04X}  {new_low:04X} {new_high:04X}  {x}"

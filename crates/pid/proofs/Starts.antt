@@ -7,8 +7,8 @@ use lib.Ieee.Fits.{mul-fits}
 use lib.Ieee.Bits.{ofBits-fits}
 use Rattle.std.specs.Floats.{finite}
 use Rattle.std.proofs.num.Compares.{le-trans}
-use Rattle.reals.specs.Numbers.{zero, hundred, bottom, top, least, most, narrowest, longest}
-use Rattle.reals.specs.Reals.{brought, inside}
+use Rattle.reals.specs.Numbers.{zero, hundred, bottom, top, least, most, narrowest}
+use Rattle.reals.specs.Reals.{brought}
 use Rattle.reals.proofs.OrderLaws.{bring-low, bring-high}
 use Rattle.reals.proofs.Finite.{sub-finite, over-span-finite, mul-number}
 use Rattle.block.specs.Checks.{tests}
