@@ -1,0 +1,223 @@
+// Damaged blocks, each with the refusal that comes first.
+use block::key::ModeKey;
+use block::words::fill_words;
+use pid::reading::read;
+use pid_fields::checks::periods;
+use pid_fields::fields::Settings;
+use standard::SETTINGS;
+use standard::standard_words;
+use std::test::*;
+
+// A block that is damaged twice: two words of it, and the number and place of the refusal that comes first.
+struct Damage {
+    words: [(u16, u16); 2],
+    number: u16,
+    place: u16,
+}
+
+// High halves of reals whose low half is 0.
+const NAN: u16 = 0x7fc0;
+
+const INFINITY: u16 = 0x7f80;
+
+const MINUS_ONE: u16 = 0xbf80;
+
+const TWO_HUNDRED: u16 = 0x4348;
+
+// 2097152
+const TWO_MILLION: u16 = 0x4a00;
+
+// 32768
+const LONG: u16 = 0x4700;
+
+const DAMAGES: [Damage; 16] = [
+    Damage {
+        words: [(13, NAN), (15, INFINITY)],
+        number: 2,
+        place: 12,
+    },
+    Damage {
+        words: [(15, INFINITY), (1, 0)],
+        number: 2,
+        place: 14,
+    },
+    Damage {
+        words: [(111, NAN), (1, 0)],
+        number: 2,
+        place: 110,
+    },
+    Damage {
+        words: [(63, INFINITY), (13, TWO_HUNDRED)],
+        number: 2,
+        place: 62,
+    },
+    Damage {
+        words: [(1, 0), (13, TWO_HUNDRED)],
+        number: 4,
+        place: 1,
+    },
+    Damage {
+        words: [(1, 0x18), (19, TWO_HUNDRED)],
+        number: 4,
+        place: 1,
+    },
+    Damage {
+        words: [(13, TWO_HUNDRED), (19, TWO_HUNDRED)],
+        number: 3,
+        place: 12,
+    },
+    Damage {
+        words: [(23, TWO_MILLION), (47, MINUS_ONE)],
+        number: 3,
+        place: 22,
+    },
+    Damage {
+        words: [(49, TWO_HUNDRED), (53, MINUS_ONE)],
+        number: 3,
+        place: 48,
+    },
+    Damage {
+        words: [(61, MINUS_ONE), (15, TWO_HUNDRED)],
+        number: 3,
+        place: 60,
+    },
+    Damage {
+        words: [(19, MINUS_ONE), (23, 0)],
+        number: 6,
+        place: 20,
+    },
+    Damage {
+        words: [(23, 0), (47, LONG)],
+        number: 6,
+        place: 24,
+    },
+    Damage {
+        words: [(47, LONG), (15, TWO_HUNDRED)],
+        number: 6,
+        place: 46,
+    },
+    Damage {
+        words: [(15, TWO_HUNDRED), (97, 1)],
+        number: 3,
+        place: 14,
+    },
+    Damage {
+        words: [(97, 1), (96, 1)],
+        number: 3,
+        place: 97,
+    },
+    Damage {
+        words: [(59, TWO_HUNDRED), (97, 1)],
+        number: 3,
+        place: 58,
+    },
+];
+
+fn refused(words: &[u16], settings: Settings, number: u16, place: u16) -> Result<(), Fail> {
+    match read(words, settings) {
+        Ok(_) => Err(Fail::new("read")),
+        Err(refusal) => {
+            check_eq(refusal.cause.number(), number)?;
+            check_eq(refusal.cause.place(), place)?;
+            check_eq(refusal.level, 0)
+        }
+    }
+}
+
+#[test]
+fn first_refusal_of_damaged_words() -> Result<(), Fail> {
+    for damage in &DAMAGES {
+        let mut words = standard_words();
+        fill_words(&mut words, &damage.words);
+        refused(&words, SETTINGS, damage.number, damage.place)?;
+    }
+    Ok(())
+}
+
+#[test]
+fn first_refusal_of_settings() -> Result<(), Fail> {
+    let words = standard_words();
+    let twice = ModeKey {
+        man: 3,
+        aut: 3,
+        cas: 5,
+    };
+    let bad_key = Settings {
+        key: twice,
+        dt: f32::NAN,
+        ..SETTINGS
+    };
+    refused(&words[0..127], bad_key, 1, 0)?;
+    refused(&words, bad_key, 3, 128)?;
+    refused(
+        &words,
+        Settings {
+            dt: f32::NAN,
+            md: -1.0,
+            ..SETTINGS
+        },
+        2,
+        129,
+    )?;
+    refused(
+        &words,
+        Settings {
+            dt: 0.0,
+            md: f32::NAN,
+            ..SETTINGS
+        },
+        3,
+        129,
+    )?;
+    refused(
+        &words,
+        Settings {
+            dt: -0.0,
+            ..SETTINGS
+        },
+        3,
+        129,
+    )?;
+    refused(
+        &words,
+        Settings {
+            md: f32::INFINITY,
+            pn: 2,
+            ..SETTINGS
+        },
+        2,
+        130,
+    )?;
+    refused(
+        &words,
+        Settings {
+            md: -1.0,
+            pn: 2,
+            ..SETTINGS
+        },
+        3,
+        130,
+    )?;
+    refused(&words, Settings { pn: 2, ..SETTINGS }, 3, 145)
+}
+
+#[test]
+fn control_period() -> Result<(), Fail> {
+    check_eq(periods(0.0, 1.0), 1)?;
+    check_eq(periods(2.5, 1.0), 2)?;
+    check_eq(periods(32767.0, 1.0), 32767)?;
+    let mut words = standard_words();
+    // CT 32767
+    fill_words(&mut words, &[(46, 0xfe00), (47, 0x46ff)]);
+    check(read(&words, SETTINGS).is_ok())?;
+    // CT 32768
+    fill_words(&mut words, &[(46, 0), (47, LONG)]);
+    refused(&words, SETTINGS, 6, 46)
+}
+
+#[test]
+fn offset_16_is_not_looked_at() -> Result<(), Fail> {
+    let mut words = standard_words();
+    fill_words(&mut words, &[(16, 1), (17, NAN)]);
+    check(read(&words, SETTINGS).is_ok())
+}
