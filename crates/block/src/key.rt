@@ -4,7 +4,7 @@ ghost use Rattle.block.specs.Key.{key-valid, bit-word, mode-word, mode-in};
 use terms::mode::Mode;
 
 // The bit of the MODE word that stands for each mode.
-#[derive(Clone, Copy, Debug, PartialEq, Eq, Drop)]
+#[derive(Clone, Copy, Drop)]
 pub struct ModeKey {
     pub man: u8,
     pub aut: u8,

@@ -3,7 +3,7 @@ ghost use mathlib.Core.Path.{_≡_};
 ghost use Rattle.terms.specs.Refusals.{place-number};
 
 // A place: a field of the block, which goes by its offset, or a value handed in beside the words.
-#[derive(Clone, Copy, Debug, PartialEq, Eq, Drop)]
+#[derive(Clone, Copy, Drop)]
 pub enum Place {
     Mode,
     Alm,

@@ -2,12 +2,10 @@
 ghost use mathlib.Core.Path.{_≡_};
 ghost use Rattle.terms.specs.Refusals.{cause-number, cause-place};
 use crate::place::Place;
-use crate::place::PlaceDebug;
-use crate::place::PlacePartialEq;
 use std::fmt;
 
 // Why a call is refused.
-#[derive(Clone, Copy, Debug, PartialEq, Eq, Drop)]
+#[derive(Clone, Copy, Drop)]
 pub enum Cause {
     // not 128 words
     WrongLength,
@@ -55,7 +53,7 @@ impl Cause {
 }
 
 // A refusal: its cause, and the level of the loop that refuses. A call without levels tells level 0.
-#[derive(Clone, Copy, Debug, PartialEq, Eq, Drop)]
+#[derive(Clone, Copy, Drop)]
 pub struct Refusal {
     pub cause: Cause,
     pub level: u64,
@@ -86,5 +84,11 @@ pub impl fmt::Display for Refusal as RefusalDisplay {
             f,
             "refused by {number}, level {level}, place {place}: {text}"
         )
+    }
+}
+
+pub impl fmt::Debug for Refusal as RefusalDebug {
+    fn fmt<W: fmt::Write>(&self, f: &mut fmt::Formatter<W>) -> fmt::Result {
+        write!(f, "{self}")
     }
 }
