@@ -8,7 +8,7 @@ use lib.Dec.{T, eqb, ltb}
 use lib.Pow.{pow-pos}
 use borrow.Author.Tests.{ne-eqb, eq-eqb}
 use lib.Ieee.{Float, Format, nan, inf, fin, binary32, prec, low, odd, hid, ones, top, ofFields, ofBits, toBits, nanBits, isNan, fits}
-use lib.Ieee.Bits.{ofBits-toBits, toBits-ofBits, toBits-lt, nanBits-is, nanBits-above}
+use lib.Ieee.Bits.{ofBits-toBits, toBits-ofBits, nanBits-is, nanBits-above}
 use Rattle.std.specs.Floats.{finite}
 use Rattle.std.proofs.num.Patterns.{below-the-nans}
 use Rattle.reals.specs.Reals.{pattern, real-of, low-word, high-word}
@@ -41,9 +41,6 @@ bits-number b h = subst (λ (t : Bool). T (not t)) (nanBits-is binary32 b) (bits
 
 pub bits-back : (b : ℕ) → b < 2 ^ 32 → Plain b → toBits binary32 (ofBits binary32 b) ≡ b
 bits-back b l h = toBits-ofBits binary32 b l (bits-number b h)
-
-pub bits-lt : (x : Float) → T (fits binary32 x) → toBits binary32 x < 2 ^ 32
-bits-lt x p = toBits-lt binary32 x p
 
 -- ---- two words
 

@@ -92,7 +92,7 @@ over-span-finite (inf s) p w = absurd p
 over-span-finite (fin true n g) p w = absurd (omega (arith, ints, le-whole false 1 (negsuc 9) true n g (w), down-pos g))
 over-span-finite (fin false n g) p w = over-wide n g (omega (arith, ints, le-whole false 1 (negsuc 9) false n g (w)))
 
--- ---- products and sums of finite numbers are numbers
+-- ---- a product of finite numbers is a number
 
 rounded : (f : Format) (s : Bool) (a c : ℕ) → 0 < c → Number (round f s a c)
 rounded f s a c C = round-number f c C s a

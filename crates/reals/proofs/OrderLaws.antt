@@ -1,5 +1,5 @@
--- The order of floats: what `bring` gives, and that IEEE equality goes with `≤`. Assumes nothing.
-use mathlib.Core.Path.{_≡_, refl, sym, subst}
+-- The order of reals: what is brought into a range, and that IEEE equality goes with `≤`. Assumes nothing.
+use mathlib.Core.Path.{_≡_, refl, sym}
 use mathlib.Core.Logic.{_⊎_, inl, inr}
 use mathlib.Core.Bool.{Bool, true, false, not, cond}
 use Prim.Native.Nat.{ℕ, _*_}
@@ -10,11 +10,11 @@ use lib.Ieee.Bits.{is-true}
 use lib.Ieee.Fits.{and-l, and-r, and-i, eq→eqb}
 use Rattle.std.specs.Floats.{finite}
 use Rattle.std.proofs.shelf.Tests.{or-cases, or-right}
-use Rattle.std.proofs.num.Compares.{passes, fails, le-of-lt, lt-of-not-le, le-of-not-lt, le-left, le-right, lt-irrefl, le-refl, le-trans, lt-of-lt-of-le, lt-of-le-of-lt}
+use Rattle.std.proofs.num.Compares.{passes, lt-of-not-le, le-of-not-lt, le-left, le-right, lt-irrefl, le-refl, le-trans, lt-of-lt-of-le, lt-of-le-of-lt}
 use Rattle.reals.specs.Reals.{brought, inside}
 use Rattle.reals.specs.Laws.{TotalOrder, Equality, Brought}
 
--- ---- `bring`
+-- ---- what is brought into a range
 
 bring-by : (P : Float → Type 0) (x a b : Float) → T (not (isNan x)) → T (le a b) → P a → P b → (T (le a x) → T (le x b) → P x) → P (brought x a b)
 bring-by P x a b n o pa pb px = go (lt x a) (lt b x) (le-of-not-lt x a n (le-left a b o)) (le-of-not-lt b x (le-right a b o) n)
@@ -97,41 +97,6 @@ eq-le x y z h k = le-trans x y z (le-of-eq x y h) k
 
 pub le-eq : (x y z : Float) → T (le x y) → T (eq y z) → T (le x z)
 le-eq x y z h k = le-trans x y z h (le-of-eq y z k)
-
-pub eq-lt : (x y z : Float) → T (eq x y) → T (lt y z) → T (lt x z)
-eq-lt x y z h k = lt-of-le-of-lt x y z (le-of-eq x y h) k
-
-pub lt-eq : (x y z : Float) → T (lt x y) → T (eq y z) → T (lt x z)
-lt-eq x y z h k = lt-of-lt-of-le x y z h (le-of-eq y z k)
-
--- ---- a finite float is a number
-
-pub finite-number : (x : Float) → T (finite x) → T (not (isNan x))
-unfolding finite isNan
-finite-number nan p = absurd p
-finite-number (inf s) p = absurd p
-finite-number (fin s m e) p = tt
-
--- ---- what is brought between limits around o stays in any other range around o; r is a call's result
-
-pub brought-low : (p r y o a b : Float) → r ≡ brought y a b → T (le p y) → T (le p o) → T (le o b) → T (le p r)
-brought-low p r y o a b e py po ob = subst (λ (z : Float). T (le p z)) (sym e) (go (lt y a) (lt b y) refl)
-  where
-    go : (s t : Bool) → lt y a ≡ s → T (le p (cond s a (cond t b y)))
-    go true t h = le-trans p y a py (le-of-lt y a (passes _ h))
-    go false true h = le-trans p o b po ob
-    go false false h = py
-
-pub brought-high : (q r y o a b : Float) → r ≡ brought y a b → T (le y q) → T (le o q) → T (le a o) → T (le r q)
-brought-high q r y o a b e yq oq ao = subst (λ (z : Float). T (le z q)) (sym e) (go (lt y a) (lt b y) refl)
-  where
-    go : (s t : Bool) → lt b y ≡ t → T (le (cond s a (cond t b y)) q)
-    go true t h = le-trans a o q ao oq
-    go false true h = le-trans b y q (le-of-lt b y (passes _ h)) yq
-    go false false h = yq
-
--- for `search (needs, orders)`: what follows from tests between floats
-pub ruleset orders = (le-refl, le-left, le-right, le-of-not-lt, le-of-lt, fails, passes, finite-number)
 
 -- ---- the laws, as the contracts name them
 

@@ -122,18 +122,6 @@ module _ (f : Format) where
 
   -- ---- what a control loop asks
 
-  pub add-mono : (x y x' y' : Float) → Number f x → Number f y → Number f x' → Number f y' → T (le x x') → T (le y y') → T (le (add f x y) (add f x' y'))
-  add-mono x y x' y' p q p' q' h k =
-      let a = le→units f x x' p p' h in
-      let b = le→units f y y' q q' k in
-      eq-le _ _ _ (add-rounds x y p q) (le-eq _ _ _ (roundZ-mono f _ _ (omega (arith, ints))) (eq-sym _ _ (add-rounds x' y' p' q')))
-
-  pub sub-mono : (x y x' y' : Float) → Number f x → Number f y → Number f x' → Number f y' → T (le x x') → T (le y' y) → T (le (sub f x y) (sub f x' y'))
-  sub-mono x y x' y' p q p' q' h k =
-      let a = le→units f x x' p p' h in
-      let b = le→units f y' y q' q k in
-      eq-le _ _ _ (sub-rounds x y p q) (le-eq _ _ _ (roundZ-mono f _ _ (omega (arith, ints))) (eq-sym _ _ (sub-rounds x' y' p' q')))
-
   pub add-above : (x d : Float) → Number f x → Number f d → pos 0 ≤ℤ unitsIn f d → T (le x (add f x d))
   add-above x d p q h = eq-le _ _ _ (eq-sym _ _ (own-rounds x p)) (le-eq _ _ _ (roundZ-mono f _ _ (omega (arith, ints))) (eq-sym _ _ (add-rounds x d p q)))
 
@@ -158,6 +146,3 @@ add-up x d a b p q h = let D : Number binary32 d = record { is-finite = p; is-fi
 
 pub sub-down : (x d : Float) → T (finite x) → T (fits binary32 x) → T (finite d) → T (fits binary32 d) → T (le (ofBits binary32 0) d) → T (le (sub binary32 x d) x)
 sub-down x d a b p q h = let D : Number binary32 d = record { is-finite = p; is-fit = q } in sub-below binary32 x d record { is-finite = a; is-fit = b } D (not-negative d D h)
-
-pub sub-le-add : (x d : Float) → T (finite x) → T (fits binary32 x) → T (finite d) → T (fits binary32 d) → T (le (ofBits binary32 0) d) → T (le (sub binary32 x d) (add binary32 x d))
-sub-le-add x d a b p q h = le-trans _ x _ (sub-down x d a b p q h) (add-up x d a b p q h)

@@ -7,11 +7,11 @@ use native.Mathlib.Nat.{mul-div-cancel, mul-pos, mul-assoc, mul-lt-mul-of-pos-ri
 use native.Mathlib.Omega.{arith}
 use lib.Dec.{T, not-T, leb, ltb, eqb, leb→le, ltb→lt, eqb→eq}
 use lib.IntN.{ℤ, pos, negsuc, negℤ}
-use lib.Signed.{leZ, ltZ, _≤ℤ_, _<ℤ_}
+use lib.Signed.{leZ, ltZ, _≤ℤ_}
 use lib.Pow.{pow-pos, pow-add, pow-lt}
 use borrow.Author.Tests.{lt-ltb, le-ltb, eq-eqb, ne-eqb}
 use borrow.Author.Differences.{ints}
-use lib.Ieee.{Float, Format, nan, inf, fin, prec, emax, low, up, down, below, level, lt, eq, le, neg, fits, round}
+use lib.Ieee.{Float, Format, nan, inf, fin, prec, emax, low, up, down, below, level, le, neg, fits, round}
 use lib.Ieee.Bits.{is-true, is-false}
 use lib.Ieee.Fits.{down-pos, and-l, and-r, round-fits, neg-fits}
 use lib.Ieee.Exact.{HasValue, round-exact}
@@ -20,7 +20,6 @@ use Rattle.std.proofs.num.Compares.{passes}
 use Rattle.std.specs.Floats.{finite}
 use Rattle.std.proofs.num.Values.{same-value}
 use Rattle.reals.specs.Reals.{unitsIn}
-use Rattle.reals.proofs.OrderLaws.{le-of-eq, ge-of-eq, le-antisym}
 
 -- ---- what `fits` says of a finite value
 
@@ -182,10 +181,6 @@ module _ (f : Format) (s : Bool) (m : ℕ) (e : ℤ) (t : Bool) (n : ℕ) (d : �
   pub second : n * up d * down e * 2 ^ low f ≡ b * (down e * down d)
   second = omega (arith, ap (λ (k : ℕ). k * down e) (ticks-place f n d Q .1))
 
-  lt-fin : lt (fin s m e) (fin t n d) ≡ ltZ (signed s a) (signed t b)
-  unfolding lt
-  lt-fin = same-below _ _ a b (2 ^ low f) (down e * down d) (pow-pos (low f)) (mul-pos (down-pos e) (down-pos d)) first second s t ∙ below-is s a t b
-
   le-fin : le (fin s m e) (fin t n d) ≡ leZ (signed s a) (signed t b)
   unfolding le
   le-fin =
@@ -203,14 +198,6 @@ pub record Number (f : Format) (x : Float) : Type 0 where
   pub is-finite : T (finite x)
   pub is-fit : T (fits f x)
 
-pub lt-is : (f : Format) (x y : Float) → Number f x → Number f y → lt x y ≡ ltZ (unitsIn f x) (unitsIn f y)
-unfolding finite
-lt-is f nan y p q = absurd (p .is-finite)
-lt-is f (inf s) y p q = absurd (p .is-finite)
-lt-is f (fin s m e) nan p q = absurd (q .is-finite)
-lt-is f (fin s m e) (inf t) p q = absurd (q .is-finite)
-lt-is f (fin s m e) (fin t n d) p q = lt-fin f s m e t n d (fit f s m e (p .is-fit)) (fit f t n d (q .is-fit)) ∙ (λ i. ltZ (sym (units-fin f s m e) i) (sym (units-fin f t n d) i))
-
 pub le-is : (f : Format) (x y : Float) → Number f x → Number f y → le x y ≡ leZ (unitsIn f x) (unitsIn f y)
 unfolding finite
 le-is f nan y p q = absurd (p .is-finite)
@@ -219,25 +206,10 @@ le-is f (fin s m e) nan p q = absurd (q .is-finite)
 le-is f (fin s m e) (inf t) p q = absurd (q .is-finite)
 le-is f (fin s m e) (fin t n d) p q = le-fin f s m e t n d (fit f s m e (p .is-fit)) (fit f t n d (q .is-fit)) ∙ (λ i. leZ (sym (units-fin f s m e) i) (sym (units-fin f t n d) i))
 
--- ---- the same as facts, one way and the other
+-- ---- the same as a fact
 
 pub le→units : (f : Format) (x y : Float) → Number f x → Number f y → T (le x y) → unitsIn f x ≤ℤ unitsIn f y
 le→units f x y p q h = record { le = subst T (le-is f x y p q) h }
-
-pub units→le : (f : Format) (x y : Float) → Number f x → Number f y → unitsIn f x ≤ℤ unitsIn f y → T (le x y)
-units→le f x y p q h = subst T (sym (le-is f x y p q)) (h .le)
-
-pub lt→units : (f : Format) (x y : Float) → Number f x → Number f y → T (lt x y) → unitsIn f x <ℤ unitsIn f y
-lt→units f x y p q h = record { lt = subst T (lt-is f x y p q) h }
-
-pub units→lt : (f : Format) (x y : Float) → Number f x → Number f y → unitsIn f x <ℤ unitsIn f y → T (lt x y)
-units→lt f x y p q h = subst T (sym (lt-is f x y p q)) (h .lt)
-
-pub eq→units : (f : Format) (x y : Float) → Number f x → Number f y → T (eq x y) → unitsIn f x ≡ unitsIn f y
-eq→units f x y p q h = let a = le→units f x y p q (le-of-eq x y h) in let b = le→units f y x q p (ge-of-eq x y h) in omega (arith, ints)
-
-pub units→eq : (f : Format) (x y : Float) → Number f x → Number f y → unitsIn f x ≡ unitsIn f y → T (eq x y)
-units→eq f x y p q h = le-antisym x y (units→le f x y p q (omega (arith, ints))) (units→le f y x q p (omega (arith, ints)))
 
 -- ---- negation
 
