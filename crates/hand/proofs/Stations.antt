@@ -5,7 +5,12 @@ use mathlib.Core.List.{List, [], _∷_}
 use Prim.Native.Nat.{ℕ, _<_}
 use lib.Dec.{T, eqb, eqb→eq, lit<}
 use lib.ListN.{length}
-use lib.Ieee.{binary32, fits}
+use mathlib.Core.Bool.{not}
+use lib.Ieee.{binary32, fits, le, isNan, ofBits}
+use Rattle.std.proofs.num.Compares.{le-right}
+use Rattle.reals.specs.Numbers.{zero, hundred, bottom, top}
+use Rattle.reals.specs.Reals.{inside}
+use Rattle.reals.proofs.OrderLaws.{bring-low, bring-high}
 use lib.Ieee.Bits.{ofBits-fits}
 use lib.Ieee.Fits.{eq→eqb}
 use Rattle.std.specs.Floats.{finite}
@@ -23,7 +28,7 @@ use Rattle.block.proofs.Filling.{Agrees, fill-agrees, all-agree, Sixteen, real-
 use Rattle.hand.specs.declared.fields.Fields.{Fields}
 use Rattle.hand.specs.Checks.{station-checks, good}
 use Rattle.hand.specs.Reading.{fields-of, checked-of, read-of}
-use Rattle.hand.specs.Starting.{cold-fields, started-fields}
+use Rattle.hand.specs.Starting.{percent-of, cold-fields, started-fields}
 use Rattle.hand.specs.Writing.{named-words, written}
 
 -- ---- fields that pass every check
@@ -47,6 +52,15 @@ is-good f g = both _ _ (g .checks) (g .kept)
 pub good-started : (s : Start) (f : Fields) → T (good f) → T (good (started-fields s f))
 good-started Cold f t = let g = goodness f t in is-good (cold-fields f) record { checks = g .checks; kept = g .kept }
 good-started Warm f t = t
+
+-- S lies in 0..100
+pub percent-inside : (f : Fields) → T (good f) → T (inside zero hundred (percent-of f))
+unfolding inside
+percent-inside f t =
+    let in-range = spread (tests (station-checks f (man-word f))) (goodness f t .checks) .1 .1 .1 .0 in
+    let n : T (not (isNan (f .mv))) = le-right bottom (f .mv) (split (le bottom (f .mv)) (le (f .mv) top) in-range .0) in
+    let o : T (le zero hundred) = unfold le in unfold ofBits in tt in
+    both (le zero (percent-of f)) (le (percent-of f) hundred) (bring-low (f .mv) zero hundred n o) (bring-high (f .mv) zero hundred n o)
 
 -- ---- words that reading accepts
 

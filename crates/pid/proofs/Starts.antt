@@ -8,7 +8,7 @@ use lib.Ieee.Bits.{ofBits-fits}
 use Rattle.std.specs.Floats.{finite}
 use Rattle.std.proofs.num.Compares.{le-trans}
 use Rattle.reals.specs.Numbers.{zero, hundred, bottom, top, least, most, narrowest}
-use Rattle.reals.specs.Reals.{brought}
+use Rattle.reals.specs.Reals.{brought, inside}
 use Rattle.reals.proofs.OrderLaws.{bring-low, bring-high}
 use Rattle.reals.proofs.Finite.{sub-finite, over-span-finite, mul-number}
 use Rattle.block.specs.Checks.{tests}
@@ -60,7 +60,7 @@ hundred-top : T (le hundred top)
 hundred-top = unfold le in unfold ofBits in tt
 
 -- S lies in 0..100
-pub percent-in : (f : Fields) → Good f → T (le zero (percent-of f)) × T (le (percent-of f) hundred)
+percent-in : (f : Fields) → Good f → T (le zero (percent-of f)) × T (le (percent-of f) hundred)
 percent-in f g =
     let m = measuring f g in
     let rl = f .bounds .rl in
@@ -70,6 +70,10 @@ percent-in f g =
     let n = mul-number binary32 (div binary32 hundred span) above (over-span-finite span (sub-finite (f .bounds .rh) rl (m .rh) (m .rl)) (m .wide)) (sub-finite (f .sv) rl sv (m .rl)) in
     let x = mul binary32 (div binary32 hundred span) above in
     (bring-low x zero hundred n zero-hundred, bring-high x zero hundred n zero-hundred)
+
+pub percent-inside : (f : Fields) → T (good f) → T (inside zero hundred (percent-of f))
+unfolding inside
+percent-inside f t = let p = percent-in f (goodness f t) in both (le zero (percent-of f)) (le (percent-of f) hundred) (p .0) (p .1)
 
 pub good-percent : (f : Fields) → T (good f) → T (good-e2 (percent-of f))
 unfolding good-e2

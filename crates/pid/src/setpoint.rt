@@ -1,5 +1,8 @@
 // The setpoint in percent.
 ghost use mathlib.Core.Path.{_≡_};
+ghost use lib.Dec.{T};
+ghost use Rattle.reals.specs.Numbers.{zero, hundred};
+ghost use Rattle.reals.specs.Reals.{inside};
 ghost use Rattle.pid.specs.Starting.{percent-at, percent-of};
 use crate::states::Pid;
 use pid_fields::fields::Bounds;
@@ -19,9 +22,10 @@ pub(crate) fn percent_at(sv: f32, bounds: Bounds) -> f32
 }
 
 impl Pid {
-    // S, the setpoint in percent.
+    // S, the setpoint in percent. It lies in 0..100.
     pub fn percent(&self) -> f32
-        ensures { λ r. ⌜ r ≡ percent-of (now (self .entry) .fields) ⌝ }
+        ensures value { λ r. ⌜ r ≡ percent-of (now (self .entry) .fields) ⌝ }
+        ensures range { λ r. ⌜ T (inside zero hundred r) ⌝ }
     {
         percent_at(self.fields.sv, self.fields.bounds)
     }
