@@ -1,7 +1,7 @@
 // Prints the fields of a PID block.
 use block::words::real_at;
 use block::words::word_at;
-use standard::SETTINGS;
+use standard::standard_settings;
 use std::error::AnyError;
 use terms::mode::Mode;
 use terms::place::Place;
@@ -153,7 +153,7 @@ const TRKF: u16 = 0x2000;
 // What a word says.
 fn meaning(place: Place, word: u16) -> &'static str {
     match place {
-        Place::Mode => match SETTINGS.key.mode(word) {
+        Place::Mode => match standard_settings().key.mode(word) {
             Some(Mode::Man) => "MAN",
             Some(Mode::Aut) => "AUT",
             Some(Mode::Cas) => "CAS",

@@ -4,7 +4,7 @@ use block::words::fill_words;
 use pid::reading::read;
 use pid_fields::checks::periods;
 use pid_fields::fields::Settings;
-use standard::SETTINGS;
+use standard::standard_settings;
 use standard::standard_words;
 use std::test::*;
 
@@ -129,7 +129,7 @@ fn first_refusal_of_damaged_words() -> Result<(), Fail> {
     for damage in &DAMAGES {
         let mut words = standard_words();
         fill_words(&mut words, &damage.words);
-        refused(&words, SETTINGS, damage.number, damage.place)?;
+        refused(&words, standard_settings(), damage.number, damage.place)?;
     }
     Ok(())
 }
@@ -145,7 +145,7 @@ fn first_refusal_of_settings() -> Result<(), Fail> {
     let bad_key = Settings {
         key: twice,
         dt: f32::NAN,
-        ..SETTINGS
+        ..standard_settings()
     };
     refused(&words[0..127], bad_key, 1, 0)?;
     refused(&words, bad_key, 3, 128)?;
@@ -154,7 +154,7 @@ fn first_refusal_of_settings() -> Result<(), Fail> {
         Settings {
             dt: f32::NAN,
             md: -1.0,
-            ..SETTINGS
+            ..standard_settings()
         },
         2,
         129,
@@ -164,7 +164,7 @@ fn first_refusal_of_settings() -> Result<(), Fail> {
         Settings {
             dt: 0.0,
             md: f32::NAN,
-            ..SETTINGS
+            ..standard_settings()
         },
         3,
         129,
@@ -173,7 +173,7 @@ fn first_refusal_of_settings() -> Result<(), Fail> {
         &words,
         Settings {
             dt: -0.0,
-            ..SETTINGS
+            ..standard_settings()
         },
         3,
         129,
@@ -183,7 +183,7 @@ fn first_refusal_of_settings() -> Result<(), Fail> {
         Settings {
             md: f32::INFINITY,
             pn: 2,
-            ..SETTINGS
+            ..standard_settings()
         },
         2,
         130,
@@ -193,12 +193,20 @@ fn first_refusal_of_settings() -> Result<(), Fail> {
         Settings {
             md: -1.0,
             pn: 2,
-            ..SETTINGS
+            ..standard_settings()
         },
         3,
         130,
     )?;
-    refused(&words, Settings { pn: 2, ..SETTINGS }, 3, 145)
+    refused(
+        &words,
+        Settings {
+            pn: 2,
+            ..standard_settings()
+        },
+        3,
+        145,
+    )
 }
 
 #[test]
@@ -209,15 +217,15 @@ fn control_period() -> Result<(), Fail> {
     let mut words = standard_words();
     // CT 32767
     fill_words(&mut words, &[(46, 0xfe00), (47, 0x46ff)]);
-    check(read(&words, SETTINGS).is_ok())?;
+    check(read(&words, standard_settings()).is_ok())?;
     // CT 32768
     fill_words(&mut words, &[(46, 0), (47, LONG)]);
-    refused(&words, SETTINGS, 6, 46)
+    refused(&words, standard_settings(), 6, 46)
 }
 
 #[test]
 fn offset_16_is_not_looked_at() -> Result<(), Fail> {
     let mut words = standard_words();
     fill_words(&mut words, &[(16, 1), (17, NAN)]);
-    check(read(&words, SETTINGS).is_ok())
+    check(read(&words, standard_settings()).is_ok())
 }

@@ -1,6 +1,6 @@
 // Starts and round trips of single blocks.
 use block::words::fill_words;
-use standard::SETTINGS;
+use standard::standard_settings;
 use standard::standard_words;
 use std::test::*;
 use terms::refusal::RefusalDebug;
@@ -33,7 +33,7 @@ fn same_words(a: &[u16; 128], b: &[u16; 128]) -> Result<(), Fail> {
 #[test]
 fn cold_start_zeroes_the_past() -> Result<(), Fail> {
     let mut words = used_words();
-    let pid = pid::reading::read(&words, SETTINGS)?.cold_start();
+    let pid = pid::reading::read(&words, standard_settings())?.cold_start();
     pid.write(&mut words)?;
     let mut expected = standard_words();
     // MVP stays, and INH gains TRKF
@@ -48,7 +48,7 @@ fn warm_start_keeps_the_block() -> Result<(), Fail> {
     fill_words(&mut words, &[(13, 0x8000), (62, 1), (63, 0)]);
     let mut expected = words;
     fill_words(&mut expected, &[(16, 0), (17, 0x4020)]);
-    pid::round_trips::write_back(&mut words, SETTINGS)?;
+    pid::round_trips::write_back(&mut words, standard_settings())?;
     same_words(&words, &expected)
 }
 
@@ -58,16 +58,16 @@ fn hand_station() -> Result<(), Fail> {
     // MV 110, and a damaged SV that a hand station does not look at
     fill_words(&mut words, &[(13, 0x42dc), (15, 0x7fc0)]);
     let expected = words;
-    hand::round_trips::write_back(&mut words, SETTINGS.key)?;
+    hand::round_trips::write_back(&mut words, standard_settings().key)?;
     same_words(&words, &expected)?;
-    let station = hand::reading::read(&words, SETTINGS.key)?.warm_start();
+    let station = hand::reading::read(&words, standard_settings().key)?.warm_start();
     check(station.percent() == 100.0)?;
-    check_eq(station.key().cas, SETTINGS.key.cas)
+    check_eq(station.key().cas, standard_settings().key.cas)
 }
 
 #[test]
 fn wrong_length() -> Result<(), Fail> {
-    let pid = pid::reading::read(&standard_words(), SETTINGS)?.cold_start();
+    let pid = pid::reading::read(&standard_words(), standard_settings())?.cold_start();
     let mut short = [7u16; 127];
     check(pid.write(&mut short).is_err())?;
     check(short == [7u16; 127])

@@ -1,6 +1,6 @@
 // A standard PID block, from a constant table of offsets and words.
 ghost use mathlib.Core.Path.{_≡_};
-ghost use Rattle.standard.specs.Standard.{standard-words as words-of};
+ghost use Rattle.standard.specs.Standard.{standard-words as words-of, standard-settings as settings-of};
 use block::key::ModeKey;
 use block::words::LENGTH;
 use block::words::fill_words;
@@ -31,7 +31,7 @@ const TABLE: [(u16, u16); 10] = [
 ];
 
 // The settings beside a standard block: key 3, 4, 5, ΔT 1, MD 8, reverse action.
-pub const SETTINGS: Settings = Settings {
+const SETTINGS: Settings = Settings {
     key: ModeKey {
         man: 3,
         aut: 4,
@@ -49,4 +49,11 @@ pub fn standard_words() -> [u16; 128]
     let mut words = [0; LENGTH];
     fill_words(&mut words, &TABLE);
     words
+}
+
+// The settings beside a standard block.
+pub fn standard_settings() -> Settings
+    ensures { λ r. ⌜ r ≡ settings-of ⌝ }
+{
+    SETTINGS
 }
