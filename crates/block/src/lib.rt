@@ -1,4 +1,6 @@
 // The block: 128 device words that hold one loop.
+#![tactic(auto)]
+
 pub mod bits;
 pub mod checks;
 pub mod key;

@@ -1,4 +1,6 @@
 // Shows one PID block and one hand station from their words to a loop and back, and what reading refuses.
+#![tactic(auto)]
+
 mod fields;
 mod stations;
 

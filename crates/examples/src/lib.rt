@@ -1,4 +1,5 @@
 // Examples, as tests: control periods, damaged blocks and what reading says of them, starts and round trips, scans and entries.
+#![tactic(auto)]
 
 // Damaged blocks, each with the refusal that comes first.
 #[cfg(test)]

@@ -1,4 +1,6 @@
 // The hand station: it sends the output that an operator enters. Read from a block, started, scanned, and written back.
+#![tactic(auto)]
+
 pub mod fields;
 pub mod kind;
 pub mod reading;

@@ -1,4 +1,6 @@
 // The PID loop: read from a block, started, scanned and operated as a kind of loop, and written back.
+#![tactic(auto)]
+
 pub mod kind;
 pub mod reading;
 pub mod round_trips;

@@ -1,4 +1,6 @@
 // One scan of a PID loop, step by step, and an operator's entries: over the fields of a block, real by real.
+#![tactic(auto)]
+
 pub mod control;
 pub mod entering;
 pub mod output;

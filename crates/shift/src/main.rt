@@ -1,4 +1,6 @@
 // A short shift at one PID loop: entries and scans, each printed with its answer.
+#![tactic(auto)]
+
 use loops::kind::Loop;
 use pid::reading::read;
 use pid::states::Pid;

@@ -1,4 +1,6 @@
 // A standard PID block, from a constant table of offsets and words.
+#![tactic(auto)]
+
 ghost use Rattle.std.specs.Prelude.{◌≡◌};
 ghost use Rattle.standard.specs.Standard.{standard_words as words_of, standard_settings as settings_of};
 

@@ -4,15 +4,15 @@ use Rattle.terms.specs.declared.refusal.Cause.{Cause}
 use Rattle.block.proofs.Passing.{check_passes, check_fails, none_left}
 use Rattle.block.proofs.checks.pass.Goals as goal
 
-pub returns-in-err-refuse-unless : goal.returns-in-err-refuse-unless
-returns-in-err-refuse-unless c =
-    let p = err_from_is_err_and c.from-residual.result c.from-residual.ensures.1 in
-    let x = c.in-err-refuse-unless.field-0.0 in
-    p.1 ∙ ap (λ (y : Cause). Err y) p.2 ∙ check_fails c.args.checks.now c.loop-test.test-index x c.loop-test-test.true (sym c.in-err-refuse-unless.ensures) ∙ c.loop-test.invariant
+pub returns-in_err-refuse_unless : goal.returns-in_err-refuse_unless
+returns-in_err-refuse_unless c =
+    let p = err_from_is_err_and c.from_residual.result c.from_residual.ensures.1 in
+    let x = c.in_err-refuse_unless.field-0.0 in
+    p.1 ∙ ap (λ (y : Cause). Err y) p.2 ∙ check_fails c.args.checks.now c.loop-test.test-index x c.loop-test-test.true (sym c.in_err-refuse_unless.ensures) ∙ c.loop-test.invariant
 
 pub loop-test-preserved : goal.loop-test-preserved
 loop-test-preserved c =
-    check_passes c.args.checks.now c.loop-test.test-index c.in-ok-refuse-unless.field-0 c.loop-test-test.true (sym c.in-ok-refuse-unless.ensures) ∙ c.loop-test.invariant
+    check_passes c.args.checks.now c.loop-test.test-index c.in_ok-refuse_unless.field-0 c.loop-test-test.true (sym c.in_ok-refuse_unless.ensures) ∙ c.loop-test.invariant
 
 pub returns : goal.returns
 returns c =

@@ -6,8 +6,8 @@ pub loop-offset-preserved : goal.loop-offset-preserved
 loop-offset-preserved c =
     let t = c.args.table.now in
     let i = c.loop-offset.offset-index in
-    let put : c.put-entry.new.words ≡ set c.loop-offset.words (get_or t i (0, 0)).0 (get_or t i (0, 0)).1 = cc in
-    fill_step t i c.loop-offset.words c.put-entry.new.words c.loop-offset-test.true put ∙ c.loop-offset.invariant
+    let put : c.put_entry.new.words ≡ set c.loop-offset.words (get_or t i (0, 0)).0 (get_or t i (0, 0)).1 = cc in
+    fill_step t i c.loop-offset.words c.put_entry.new.words c.loop-offset-test.true put ∙ c.loop-offset.invariant
 
 pub returns : goal.returns
 returns c =

@@ -8,10 +8,10 @@ pub invariant-of-result : goal.invariant-of-result
 invariant-of-result c =
     let h : EntryHeld c.args.entry = search rules in
     let k = c.args.k.now in
-    (entry_sound k c.args.entry c.in-Ok.fields h (sym c.enter-fields.ensures ∙ c.in-Ok.is), (k.aimed, tt))
+    (entry_sound k c.args.entry c.in-Ok.fields h (sym c.enter_fields.ensures ∙ c.in-Ok.is), (k.aimed, tt))
 
 pub returns-in-Ok : goal.returns-in-Ok
 returns-in-Ok c =
     let k = c.args.k.now in
-    let e = ap (with_aim k.e2) (sym c.enter-fields.ensures ∙ c.in-Ok.is) in
+    let e = ap (with_aim k.e2) (sym c.enter_fields.ensures ∙ c.in-Ok.is) in
     record { outcome = made _ (record { fields = c.in-Ok.fields; e2 = k.e2 }) _ _ e; plainly = sym e }

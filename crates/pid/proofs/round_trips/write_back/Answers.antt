@@ -8,11 +8,11 @@ use Rattle.pid.specs.Reading.{read_of}
 use Rattle.pid.proofs.Trips.{warm_fields, warm_refused, block_trip}
 use Rattle.pid.proofs.round_trips.write_back.Goals as goal
 
-pub returns-in-err-read-warm : goal.returns-in-err-read-warm
-returns-in-err-read-warm c =
-    let x = c.in-err-read-warm.field-0.0 in
-    let e = warm_refused (read_of c.args.words.now c.args.settings) x c.in-err-read-warm.ensures in
-    let p = err_from_is_err_and c.from-residual.result c.from-residual.ensures.1 in
+pub returns-in_err-read_warm : goal.returns-in_err-read_warm
+returns-in_err-read_warm c =
+    let x = c.in_err-read_warm.field-0.0 in
+    let e = warm_refused (read_of c.args.words.now c.args.settings) x c.in_err-read_warm.ensures in
+    let p = err_from_is_err_and c.from_residual.result c.from_residual.ensures.1 in
     record {
       answer = p.1 ∙ ap (λ (y : Refusal). Err y) p.2 ∙ ap (λ (o : Result Fields Refusal). done o) e;
       words = ap (λ (o : Result Fields Refusal). same_block o c.args.words.now) e;
@@ -21,8 +21,8 @@ returns-in-err-read-warm c =
 pub returns : goal.returns
 returns c =
     let ws = c.args.words.now in
-    let k = c.in-ok-read-warm.field-0 in
+    let k = c.in_ok-read_warm.field-0 in
     let fit : (i : ℕ) → Fits w16 (get_or ws i 0) = λ i. search rules in
-    let w = warm_fields (read_of ws c.args.settings) k.fields k.e2 c.in-ok-read-warm.ensures in
+    let w = warm_fields (read_of ws c.args.settings) k.fields k.e2 c.in_ok-read_warm.ensures in
     let t = block_trip ws c.args.settings k.fields (λ i. (fit i).fits) w.0 in
     record { answer = c.write.ensures.answer ∙ t.0; words = c.write.ensures.words ∙ t.1 }

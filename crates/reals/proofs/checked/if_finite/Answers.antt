@@ -2,10 +2,10 @@ use Rattle.std.proofs.Common.{rules}
 use Rattle.reals.specs.Checked.{real}
 use Rattle.reals.proofs.checked.if_finite.Goals as goal
 
-pub returns-then-is-finite : goal.returns-then-is-finite
+pub returns-then-is_finite : goal.returns-then-is_finite
 unfolding real
-returns-then-is-finite c = search rules
+returns-then-is_finite c = search rules
 
-pub returns-else-is-finite : goal.returns-else-is-finite
+pub returns-else-is_finite : goal.returns-else-is_finite
 unfolding real
-returns-else-is-finite c = search rules
+returns-else-is_finite c = search rules

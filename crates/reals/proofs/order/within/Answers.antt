@@ -4,4 +4,4 @@ use Rattle.reals.proofs.order.within.Goals as goal
 
 pub returns : goal.returns
 unfolding inside
-returns c = record { value = c.lies-in.ensures; order = total_order }
+returns c = record { value = c.lies_in.ensures; order = total_order }
