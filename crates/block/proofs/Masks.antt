@@ -1,5 +1,5 @@
 -- Single bits of words: SPA and TRKF after each change of ALM and INH. Assumes nothing.
-use Rattle.std.proofs.Common.{◌≡◌, ℕ, zero, suc, ◌+◌, ◌-◌, ◌*◌, ◌/◌, ◌%◌, ◌^◌, ◌<◌, Bool, true, false, cond, not, ◌&&◌, eqb, sym, refl, ap, ◌∙◌, arith}
+use Rattle.std.proofs.Common.{◌≡◌, ℕ, zero, suc, ◌*◌, ◌/◌, ◌%◌, ◌^◌, ◌<◌, Bool, true, false, cond, not, ◌&&◌, eqb, sym, refl, ap, ◌∙◌, arith}
 use lib.Bits.{bit_and, bit_or, and_shr, and_mod, or_shr, or_mod, and_high, and_mask, and_zero_r, or_zero_r}
 use Rattle.block.specs.declared.bits.Alarms.{Alarms}
 use Rattle.block.specs.Bits.{stopped, with_spa, without_spa, tracking, with_trkf, without_trkf, alarm_bit, alarms_off, alarms_made}

@@ -1,6 +1,6 @@
 -- What the checks of a call's inputs say, and what every kind's laws go by. Assumes nothing.
-use Rattle.std.proofs.Common.{◌≡◌, Bool, true, false, cond, ◌&&◌, T, Some, None, Ok, Err, Option, Result, refl, ap, ◌∙◌}
-use lib.Ieee.{Float, le, eq, of_bits}
+use Rattle.std.proofs.Common.{◌≡◌, Bool, true, false, cond, T, Some, None, Ok, Err, Option, Result, refl}
+use lib.Ieee.{Float, of_bits}
 use Rattle.std.specs.Float.{float_is_finite}
 use Rattle.std.specs.Float.Order.{le_right}
 use Rattle.terms.specs.declared.place.Place.{Place}
@@ -10,7 +10,7 @@ use Rattle.terms.specs.declared.refusal.Cause.TheVariants.{NotFinite, OutOfRange
 use Rattle.reals.specs.Numbers.{bottom, top}
 use Rattle.reals.specs.Reals.{inside, Within, Same}
 use Rattle.reals.proofs.OrderLaws.{eq_refl, finite_between}
-use Rattle.block.specs.Checks.{passed, tests, ◌next◌}
+use Rattle.block.specs.Checks.{passed, tests}
 use Rattle.block.proofs.Passing.{spread, gather, range, in_range, passed_sound, sound_passed, next_ok, OnOk}
 use Rattle.loops.specs.Outcomes.{where_so}
 use Rattle.loops.specs.Inputs.{percent_checks, inputs_passed, no_percent}

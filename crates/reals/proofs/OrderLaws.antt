@@ -1,7 +1,7 @@
 -- The order of reals: what is brought into a range, and that IEEE equality goes with `≤`. Assumes nothing.
 use Rattle.std.proofs.Common.{◌≡◌, ℕ, ◌*◌, Bool, true, false, cond, not, T, eqb, ◌⊎◌, sym, refl, inl, inr, arith, eqb→eq}
 use lib.Dec.{not_T}
-use lib.Ieee.{Float, nan, inf, fin, up, down, below, level, lt, eq, le, is_nan}
+use lib.Ieee.{Float, nan, inf, fin, up, down, level, lt, eq, le, is_nan}
 use lib.Ieee.Bits.{is_true}
 use lib.Ieee.Fits.{and_l, and_r, and_i, eq→eqb}
 use Rattle.std.specs.Float.{float_is_finite}
