@@ -1,6 +1,7 @@
 -- What a call leaves is a station again, and the laws of a loop hold of hand stations. Assumes nothing.
-use Rattle.std.specs.Prelude.{◌≡◌, ℕ, Bool, true, false, cond, ◌||◌, T, Ok, Err, Option, Result, from_bits, refl, Float}
+use Rattle.std.specs.Prelude.{◌≡◌, ℕ, Bool, true, false, cond, ◌||◌, T, Ok, Err, Option, Result, refl, Float}
 use Rattle.std.proofs.Common.{sym, ap, subst, ◌∙◌, inl}
+use lib.Ieee.{of_bits}
 use Rattle.std.specs.Float.Ieee.{binary32, fits, lt, le, eq}
 use Rattle.std.specs.Float.Ieee.Bits.{of_bits-fits}
 use Rattle.std.specs.Float.Order.{le_right}
@@ -39,7 +40,7 @@ mv_fits : (f : Fields) → T (good f) → T (fits binary32 f.mv)
 mv_fits f t = (goodness f t).kept
 
 zero_hundred : T (le zero hundred)
-zero_hundred = unfold le in unfold from_bits in tt
+zero_hundred = unfold le in unfold of_bits in tt
 
 percent_in : (f : Fields) → Within f.mv bottom top → Within (percent_of f) zero hundred
 percent_in f w = let n = le_right bottom f.mv w.0 in (bring_low f.mv zero hundred n zero_hundred, bring_high f.mv zero hundred n zero_hundred)
@@ -140,7 +141,7 @@ came_whole o j e = let a = next_ok o whole j e in a.1 ∙ ap Ok (whole_fields a.
 -- ---- the laws
 
 same_limits : (f g : Fields) → SameLimits (told_of_fields f) (told_of_fields g)
-same_limits f g = record { ml = unfold eq in unfold from_bits in tt; mh = unfold eq in unfold from_bits in tt; dml = unfold eq in unfold from_bits in tt }
+same_limits f g = record { ml = unfold eq in unfold of_bits in tt; mh = unfold eq in unfold of_bits in tt; dml = unfold eq in unfold of_bits in tt }
 
 pub ranges : (k : Hand) → Ranges (told k)
 ranges k =
@@ -148,10 +149,10 @@ ranges k =
     let w = mv_in f k.ok in
     record {
       mv = w;
-      ml = (unfold le in unfold from_bits in tt, unfold le in unfold from_bits in tt);
-      mh = (unfold le in unfold from_bits in tt, unfold le in unfold from_bits in tt);
-      ordered = unfold le in unfold from_bits in tt;
-      dml = (unfold le in unfold from_bits in tt, unfold le in unfold from_bits in tt);
+      ml = (unfold le in unfold of_bits in tt, unfold le in unfold of_bits in tt);
+      mh = (unfold le in unfold of_bits in tt, unfold le in unfold of_bits in tt);
+      ordered = unfold le in unfold of_bits in tt;
+      dml = (unfold le in unfold of_bits in tt, unfold le in unfold of_bits in tt);
       s = percent_in f w;
       mv_real = mv_fits f k.ok;
       ml_real = of_bits-fits binary32 0xc120_0000;

@@ -1,6 +1,7 @@
 -- What was read passes every check; a block through a hand station is the same block, and a station through a block the same station. Assumes nothing.
-use Rattle.std.specs.Prelude.{◌≡◌, ℕ, ◌<◌, true, not, T, List, [], ◌∷◌, length, Ok, ◌==◌, from_bits, is_nan, refl}
+use Rattle.std.specs.Prelude.{◌≡◌, ℕ, ◌<◌, true, not, T, List, [], ◌∷◌, length, Ok, ◌==◌, is_nan, refl}
 use Rattle.std.proofs.Common.{sym, ap, subst, ◌∙◌, eqb→eq, lit<}
+use lib.Ieee.{of_bits}
 use Rattle.std.specs.Float.Ieee.{fits, le}
 use Rattle.std.specs.Float.Order.{le_right}
 use Rattle.reals.specs.Numbers.{zero, hundred, bottom, top}
@@ -53,7 +54,7 @@ unfolding inside
 percent_inside f t =
     let in_range = (spread (tests (station_checks f (man_word f))) (goodness f t).checks).1.1.1.0 in
     let n : T (not (is_nan f.mv)) = le_right bottom f.mv (split (le bottom f.mv) (le f.mv top) in_range).0 in
-    let o : T (le zero hundred) = unfold le in unfold from_bits in tt in
+    let o : T (le zero hundred) = unfold le in unfold of_bits in tt in
     both (le zero (percent_of f)) (le (percent_of f) hundred) (bring_low f.mv zero hundred n o) (bring_high f.mv zero hundred n o)
 
 -- ---- words that reading accepts

@@ -1,10 +1,9 @@
 -- Step 3 leaves finite past values and a counter below N. Assumes nothing.
-use Rattle.std.proofs.Common.{ℕ, ◌+◌, Bool, true, false, cond, ◌||◌, T, ltb, Some, None, Ok, Err, Option, Result, arith, lt→ltb}
+use Rattle.std.proofs.Common.{◌+◌, Bool, true, false, cond, ◌||◌, T, ltb, Some, None, Ok, Option, arith, lt→ltb}
 use lib.Ieee.{Float, binary32, eq, of_bits}
 use lib.Ieee.Bits.{of_bits-fits}
 use Rattle.std.specs.Float.{float_is_finite}
 use Rattle.terms.specs.declared.mode.Mode.{Mode}
-use Rattle.terms.specs.declared.refusal.Cause.{Cause}
 use Rattle.terms.specs.declared.refusal.Step.{Step}
 use Rattle.terms.specs.declared.refusal.Step.TheVariants as step
 use Rattle.reals.specs.Numbers.{zero}
@@ -21,7 +20,7 @@ use Rattle.pid_fields.proofs.Goodness.{Good}
 use Rattle.pid_steps.specs.declared.control.Control.{Control}
 use Rattle.pid_steps.specs.Control.{direct, deviation, gap_gain, bend, derivative, integral, change_of, control_period, scans_in_period, control_step, skipped}
 use Rattle.pid_steps.specs.Scanning.{or_refused, third}
-use Rattle.pid_meaning.proofs.Facts.{Facts, facts_of}
+use Rattle.pid_meaning.proofs.Facts.{facts_of}
 use Rattle.pid_meaning.proofs.Renewals.{PastHeld, old_past}
 
 pub record Controlled (f : Fields) (c : Control) : Type 0 where

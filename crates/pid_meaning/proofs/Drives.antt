@@ -1,6 +1,6 @@
 -- Step 4: a holding loop keeps MV, and a driving one keeps its limits and its step. Assumes nothing.
-use Rattle.std.proofs.Common.{◌≡◌, ℕ, Bool, true, false, cond, not, T, Some, None, Ok, Option, sym, refl, subst, true≢false}
-use lib.Ieee.{Float, binary32, add, sub, fits, le, lt, eq, is_nan, of_bits}
+use Rattle.std.proofs.Common.{◌≡◌, Bool, true, false, cond, not, T, Some, Ok, sym, refl, subst, true≢false}
+use lib.Ieee.{Float, binary32, add, fits, le, lt, eq, is_nan, of_bits}
 use lib.Ieee.Fits.{add-fits, sub-fits}
 use Rattle.std.specs.Float.{float_is_finite}
 use Rattle.std.specs.Float.Order.{le_trans, le_right}
@@ -11,7 +11,6 @@ use Rattle.reals.specs.Reals.{brought, less, more, Within, Same}
 use Rattle.reals.specs.Checked.{plus, minus, times, over}
 use Rattle.reals.proofs.OrderLaws.{bring_low, bring_high, bring_same, bring_keeps_low, bring_keeps_high, bring_equal, finite_number, finite_between, eq_le, le_eq, eq_sym}
 use Rattle.reals.proofs.Sums.{sub_down, add_up, zero_plus}
-use Rattle.reals.proofs.Finite.{band_finite}
 use Rattle.reals.proofs.Chains.{Each, Held, real_each, then_each, then_any, cond_each, plus_held, brought_by}
 use Rattle.block.specs.Bits.{stopped, tracking}
 use Rattle.block.proofs.Masks.{stop_off, stop_made, track_set, track_cleared}
@@ -24,7 +23,7 @@ use Rattle.pid_steps.specs.declared.output.Drive.{Drive}
 use Rattle.pid_steps.specs.Output.{held, target, stepped, limited, alarms_of, pulled, unwound, driven_by, driven}
 use Rattle.pid_steps.specs.Scanning.{or_refused, fourth}
 use Rattle.pid_meaning.proofs.Facts.{Facts, facts_of}
-use Rattle.pid_meaning.proofs.Renewals.{PastHeld, old_past}
+use Rattle.pid_meaning.proofs.Renewals.{old_past}
 use Rattle.pid_meaning.proofs.Controls.{or_on}
 
 -- how MV and TRKF move, by whether the loop holds and whether TRKF was set

@@ -1,5 +1,5 @@
 -- A follow and an operator's entry to a PID loop keep the meaning of a loop, and every check of its block. Assumes nothing.
-use Rattle.std.proofs.Common.{◌≡◌, ℕ, true, false, T, Ok, refl}
+use Rattle.std.proofs.Common.{◌≡◌, ℕ, false, T, Ok, refl}
 use lib.Ieee.{Float, binary32, fits, le}
 use Rattle.terms.specs.declared.mode.Mode.{Mode}
 use Rattle.terms.specs.declared.told.Told.{Told}
@@ -23,7 +23,7 @@ use Rattle.pid_steps.specs.Scanning.{put_output, follow_of}
 use Rattle.pid_steps.specs.Entering.{setpoint_checks, output_checks, limits_checks, with_state, with_limits, entry_of}
 use Rattle.pid_meaning.specs.Telling.{told_state}
 use Rattle.pid_meaning.proofs.Facts.{Facts, facts_of}
-use Rattle.pid_meaning.proofs.Renewals.{old_past, Renewal, good_renewed, Limits, limits, good_limits}
+use Rattle.pid_meaning.proofs.Renewals.{old_past, Renewal, good_renewed, limits, good_limits}
 use Rattle.pid_meaning.proofs.Scans.{same_s, same_limits}
 
 -- the reals of an entry that is handed in are binary32 numbers

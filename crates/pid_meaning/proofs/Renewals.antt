@@ -1,9 +1,9 @@
 -- Fields of which some are renewed within their ranges pass every check again. Assumes nothing.
-use Rattle.std.proofs.Common.{ℕ, Bool, T, ltb, List, [], ◌∷◌, take, drop}
+use Rattle.std.proofs.Common.{ℕ, T, ltb, take, drop}
 use lib.Ieee.{Float, binary32, fits, le}
 use Rattle.std.specs.Float.{float_is_finite}
 use Rattle.terms.specs.declared.mode.Mode.{Mode}
-use Rattle.reals.specs.Numbers.{zero, hundred, bottom, top, least, most}
+use Rattle.reals.specs.Numbers.{zero, hundred, bottom, top}
 use Rattle.reals.specs.Reals.{inside, Within}
 use Rattle.reals.proofs.OrderLaws.{finite_between}
 use Rattle.reals.proofs.Finite.{finite_in}
@@ -14,7 +14,7 @@ use Rattle.loops.proofs.Given.{finite_percent}
 use Rattle.pid_fields.specs.declared.fields.Past.{Past}
 use Rattle.pid_fields.specs.declared.fields.Fields.{Fields}
 use Rattle.pid_fields.specs.Checks.{finite_checks, range_checks, relation_checks, held, tuning_held, past_held, good}
-use Rattle.pid_fields.proofs.Goodness.{Good, goodness, is_good}
+use Rattle.pid_fields.proofs.Goodness.{Good, is_good}
 use Rattle.pid_steps.specs.Control.{scans_in_period}
 use Rattle.pid_steps.specs.Entering.{with_limits, limits_checks}
 use Rattle.pid_meaning.proofs.Facts.{Facts, facts_of}
@@ -23,7 +23,7 @@ use Rattle.pid_meaning.proofs.Facts.{Facts, facts_of}
 pub record PastHeld (p : Past) : Type 0 where
   pub mvp : Held p.mvp
   pub b : Held p.b
-  pub measured : Held p.decreases
+  pub measured : Held p.measured
   pub measured1 : Held p.measured1
   pub measured2 : Held p.measured2
   pub dv : Held p.dv
@@ -81,10 +81,10 @@ module _ (f : Fields) (g : Good f) (mode : Mode) (alm inh : ℕ) (mv sv : Float)
   past_finite =
       let p = r.past_held in
       gather (drop 13 (tests (finite_checks new)))
-      (p.mvp.is_finite, (p.b.is_finite, (p.decreases.is_finite, (p.measured1.is_finite, (p.measured2.is_finite, (p.dv.is_finite, tt))))))
+      (p.mvp.is_finite, (p.b.is_finite, (p.measured.is_finite, (p.measured1.is_finite, (p.measured2.is_finite, (p.dv.is_finite, tt))))))
 
   past_fit : T (all (past_held past))
-  past_fit = let p = r.past_held in gather (past_held past) (p.mvp.is_fit, (p.b.is_fit, (p.decreases.is_fit, (p.measured1.is_fit, (p.measured2.is_fit, (p.dv.is_fit, tt))))))
+  past_fit = let p = r.past_held in gather (past_held past) (p.mvp.is_fit, (p.b.is_fit, (p.measured.is_fit, (p.measured1.is_fit, (p.measured2.is_fit, (p.dv.is_fit, tt))))))
 
   pub good_renewed : T (good new)
   good_renewed =

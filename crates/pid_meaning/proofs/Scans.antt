@@ -1,18 +1,16 @@
 -- An accepted scan or follow of a PID loop keeps the meaning of a loop, and every check of its block. Assumes nothing.
-use Rattle.std.proofs.Common.{◌≡◌, Bool, true, false, cond, ◌||◌, T, Some, None, Ok, Option, Result, sym, refl, true≢false}
+use Rattle.std.proofs.Common.{◌≡◌, Bool, true, false, cond, ◌||◌, T, Some, None, Ok, Option, refl, true≢false}
 use lib.Ieee.{Float, binary32, fits}
 use Rattle.terms.specs.declared.mode.Mode.{Mode}
 use Rattle.terms.specs.declared.mode.Mode.TheVariants.{Man, Aut, Cas}
 use Rattle.terms.specs.declared.told.Told.{Told}
-use Rattle.terms.specs.declared.place.Place.TheVariants as at
 use Rattle.reals.specs.Numbers.{zero, hundred, bottom, top}
 use Rattle.reals.specs.Reals.{Within, Same}
-use Rattle.block.specs.Bits.{stopped, tracking, with_trkf}
-use Rattle.block.specs.Checks.{passed, ◌next◌}
-use Rattle.block.proofs.Masks.{track_set}
+use Rattle.block.specs.Bits.{stopped, tracking}
+use Rattle.block.specs.Checks.{◌next◌}
 use Rattle.block.proofs.Passing.{OnOk, next_on, next_any}
-use Rattle.loops.specs.Meaning.{manual, in_cascade, holds, SameLimits, Moved, Aimed, Scanned, Followed, PercentStays}
-use Rattle.loops.specs.Inputs.{inputs_passed, percent_checks}
+use Rattle.loops.specs.Meaning.{manual, in_cascade, SameLimits, Moved, Aimed, Scanned}
+use Rattle.loops.specs.Inputs.{inputs_passed}
 use Rattle.loops.proofs.Given.{self, RemoteIn, inputs_on, finite_percent}
 use Rattle.pid_fields.specs.declared.fields.Fields.{Fields}
 use Rattle.pid_fields.specs.Checks.{good, good_e2}
@@ -21,11 +19,11 @@ use Rattle.pid_steps.specs.declared.control.Control.{Control}
 use Rattle.pid_steps.specs.declared.output.Drive.{Drive}
 use Rattle.pid_steps.specs.declared.scanning.State.{State}
 use Rattle.pid_steps.specs.Setpoint.{percent_at, percent_of, mode_of, aim_of}
-use Rattle.pid_steps.specs.Scanning.{third, fourth, with_mvp, left_by, steps, scan_of, put_output, follow_of}
+use Rattle.pid_steps.specs.Scanning.{third, fourth, with_mvp, left_by, steps, scan_of}
 use Rattle.pid_meaning.specs.Telling.{told_state}
 use Rattle.pid_meaning.proofs.Facts.{Facts, facts_of}
 use Rattle.pid_meaning.proofs.Setpoints.{RemoteHeld, percent_in, aim_sv, aim_e2}
-use Rattle.pid_meaning.proofs.Renewals.{PastHeld, old_past, Renewal, good_renewed}
+use Rattle.pid_meaning.proofs.Renewals.{Renewal, good_renewed}
 use Rattle.pid_meaning.proofs.Controls.{Controlled, third_on}
 use Rattle.pid_meaning.proofs.Drives.{Moves, Driven, fourth_on}
 
@@ -114,7 +112,7 @@ module _ (k : State) (g : Good k.fields) where
         sv_in = a.0;
         sv_fits = a.1;
         counted = q.counted;
-        past_held = record { mvp = h.mvp; b = p.b; measured = p.decreases; measured1 = p.measured1; measured2 = p.measured2; dv = p.dv };
+        past_held = record { mvp = h.mvp; b = p.b; measured = p.measured; measured1 = p.measured1; measured2 = p.measured2; dv = p.dv };
       }
 
   pub scans_keep : (m : Float) (r : Option Float) → T (fits binary32 m) → RemoteHeld r → OnOk Sound (scan_of f m r)

@@ -1,20 +1,18 @@
 -- Step 2: S, the setpoint of a remote value, and E2 lie in their ranges, and binary32 holds them. Assumes nothing.
-use Rattle.std.proofs.Common.{◌≡◌, true, false, T, Some, None, Option, sym, true≢false}
-use lib.Ieee.{Float, binary32, add, sub, mul, div, fits, le, of_bits}
+use Rattle.std.proofs.Common.{T, Some, None, Option}
+use lib.Ieee.{Float, binary32, fits, le, of_bits}
 use lib.Ieee.Fits.{add-fits, mul-fits}
 use lib.Ieee.Bits.{of_bits-fits}
-use Rattle.std.specs.Float.{float_is_finite}
 use Rattle.std.specs.Float.Order.{le_trans}
 use Rattle.terms.specs.declared.mode.Mode.{Mode}
 use Rattle.terms.specs.declared.mode.Mode.TheVariants.{Man, Aut, Cas}
 use Rattle.reals.specs.Numbers.{zero, hundred, bottom, top, least, most}
-use Rattle.reals.specs.Reals.{Within, Same}
+use Rattle.reals.specs.Reals.{Within}
 use Rattle.reals.proofs.OrderLaws.{bring_low, bring_high, finite_number}
 use Rattle.reals.proofs.Finite.{percent_finite, remote_finite}
 use Rattle.reals.proofs.Chains.{brought_by}
 use Rattle.block.proofs.Passing.{both}
-use Rattle.loops.specs.Meaning.{in_cascade}
-use Rattle.loops.proofs.Given.{RemoteIn, self}
+use Rattle.loops.proofs.Given.{RemoteIn}
 use Rattle.pid_fields.specs.declared.fields.Fields.{Fields}
 use Rattle.pid_fields.specs.Checks.{good_e2}
 use Rattle.pid_steps.specs.Setpoint.{percent_at, percent_of, remote_sv, aim_of}

@@ -1,5 +1,5 @@
 -- Step 3 of a scan: the control step. Each operation is checked where it is carried out: the first whose outcome is not finite ends the step.
-use Rattle.std.specs.Prelude.{ℕ, ◌+◌, Bool, false, cond, ◌&&◌, ◌||◌, Some, None, Option, ◌==◌, nat_lt, Float}
+use Rattle.std.specs.Prelude.{ℕ, ◌+◌, Bool, false, cond, ◌&&◌, ◌||◌, Some, Option, ◌==◌, nat_lt, Float}
 use Rattle.std.specs.Float.Ieee.{lt, le, eq, neg}
 use Rattle.std.specs.Float.{float_with_sign}
 use Rattle.terms.specs.declared.mode.Mode.{Mode}

@@ -1,5 +1,5 @@
 -- Step 4 of a scan: the output step. Its operations are checked as those of step 3 are; MV − DML and MV + DML are finite for every loop within its ranges.
-use Rattle.std.specs.Prelude.{ℕ, cond, ◌||◌, Some, None, Option, Float}
+use Rattle.std.specs.Prelude.{cond, ◌||◌, Some, Option, Float}
 use Rattle.std.specs.Float.Ieee.{lt, eq}
 use Rattle.reals.specs.Numbers.{zero, one}
 use Rattle.reals.specs.Reals.{brought, less, more}

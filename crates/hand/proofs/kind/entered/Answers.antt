@@ -2,11 +2,11 @@ use Rattle.std.proofs.Common.{sym, rules}
 use Rattle.hand.specs.Laws.{Held, entry_keeps, entry_plain, whole_next}
 use Rattle.hand.proofs.kind.entered.Goals as goal
 
-pub invariant-of-result : goal.invariant-of-result
-invariant-of-result c =
+pub invariant_of-result : goal.invariant_of-result
+invariant_of-result c =
     let k = c.args.k.now in
     let h : Held c.args.entry = search rules in
-    (entry_keeps k.fields c.in-Ok.fields c.args.entry k.ok h (sym c.in-Ok.ensures), tt)
+    record { ok = entry_keeps k.fields c.in-Ok.fields c.args.entry k.ok h (sym c.in-Ok.ensures) }
 
 pub returns-in-Ok : goal.returns-in-Ok
 returns-in-Ok c =

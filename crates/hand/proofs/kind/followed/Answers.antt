@@ -3,11 +3,11 @@ use lib.Ieee.{fits, binary32}
 use Rattle.hand.specs.Laws.{follow_keeps, follow_plain, whole_next}
 use Rattle.hand.proofs.kind.followed.Goals as goal
 
-pub invariant-of-result : goal.invariant-of-result
-invariant-of-result c =
+pub invariant_of-result : goal.invariant_of-result
+invariant_of-result c =
     let k = c.args.k.now in
     let h : T (fits binary32 c.args.p) = search rules in
-    (follow_keeps k.fields c.in-Ok.fields c.args.p k.ok h (sym c.in-Ok.ensures), tt)
+    record { ok = follow_keeps k.fields c.in-Ok.fields c.args.p k.ok h (sym c.in-Ok.ensures) }
 
 pub returns-in-Ok : goal.returns-in-Ok
 returns-in-Ok c =

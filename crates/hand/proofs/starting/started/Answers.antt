@@ -4,5 +4,5 @@ use Rattle.hand.specs.Checks.{good}
 use Rattle.hand.specs.Stations.{good_started}
 use Rattle.hand.proofs.starting.started.Goals as goal
 
-pub invariant-of-result : goal.invariant-of-result
-invariant-of-result c = (subst (λ (f : Fields). T (good f)) (sym c.started_fields.ensures) (good_started c.args.start c.args.block.fields c.args.block.ok), tt)
+pub invariant_of-result : goal.invariant_of-result
+invariant_of-result c = record { ok = subst (λ (f : Fields). T (good f)) (sym c.started_fields.ensures) (good_started c.args.start c.args.block.fields c.args.block.ok) }

@@ -4,11 +4,11 @@ use Rattle.pid.specs.Kind.{with_aim}
 use Rattle.pid.specs.Lifting.{made, entry_sound}
 use Rattle.pid.proofs.kind.entered.Goals as goal
 
-pub invariant-of-result : goal.invariant-of-result
-invariant-of-result c =
+pub invariant_of-result : goal.invariant_of-result
+invariant_of-result c =
     let h : EntryHeld c.args.entry = search rules in
     let k = c.args.k.now in
-    (entry_sound k c.args.entry c.in-Ok.fields h (sym c.enter_fields.ensures ∙ c.in-Ok.is), (k.aimed, tt))
+    record { ok = entry_sound k c.args.entry c.in-Ok.fields h (sym c.enter_fields.ensures ∙ c.in-Ok.is); aimed = k.aimed }
 
 pub returns-in-Ok : goal.returns-in-Ok
 returns-in-Ok c =

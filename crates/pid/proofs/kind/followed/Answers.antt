@@ -4,11 +4,11 @@ use Rattle.pid.specs.Kind.{with_aim}
 use Rattle.pid.specs.Lifting.{made, follow_sound}
 use Rattle.pid.proofs.kind.followed.Goals as goal
 
-pub invariant-of-result : goal.invariant-of-result
-invariant-of-result c =
+pub invariant_of-result : goal.invariant_of-result
+invariant_of-result c =
     let h : T (fits binary32 c.args.p) = search rules in
     let k = c.args.k.now in
-    (follow_sound k c.args.p c.in-Ok.fields h (sym c.follow_fields.ensures ∙ c.in-Ok.is), (k.aimed, tt))
+    record { ok = follow_sound k c.args.p c.in-Ok.fields h (sym c.follow_fields.ensures ∙ c.in-Ok.is); aimed = k.aimed }
 
 pub returns-in-Ok : goal.returns-in-Ok
 returns-in-Ok c =

@@ -5,8 +5,8 @@ use Rattle.pid_fields.specs.Checks.{good, good_e2}
 use Rattle.pid.proofs.Starts.{good_aim, good_started}
 use Rattle.pid.proofs.starting.started.Goals as goal
 
-pub invariant-of-result : goal.invariant-of-result
-invariant-of-result c =
+pub invariant_of-result : goal.invariant_of-result
+invariant_of-result c =
     let f = c.args.block.fields in
     let ok = c.args.block.ok in
-    (subst (λ (g : Fields). T (good g)) (sym c.started_fields.ensures) (good_started c.args.start f ok), (subst (λ (x : Float). T (good_e2 x)) (sym c.percent_at.ensures) (good_aim f ok), tt))
+    record { ok = subst (λ (g : Fields). T (good g)) (sym c.started_fields.ensures) (good_started c.args.start f ok); aimed = subst (λ (x : Float). T (good_e2 x)) (sym c.percent_at.ensures) (good_aim f ok) }
