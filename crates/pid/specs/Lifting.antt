@@ -8,10 +8,10 @@ use Rattle.terms.specs.declared.refusal.Cause.{Cause}
 use Rattle.terms.specs.declared.refusal.Cause.TheVariants.{OutOfRange}
 use Rattle.reals.specs.Numbers.{bottom, top}
 use Rattle.reals.specs.Reals.{Within}
-use Rattle.block.specs.Checks.{passed, ◌next◌}
+use Rattle.block.specs.Checks.{◌next◌}
 use Rattle.block.proofs.Passing.{OnOk, ok_by, next_ok, not_ok, split}
 use Rattle.loops.specs.Outcomes.{where_so}
-use Rattle.loops.specs.Inputs.{percent_checks, no_percent}
+use Rattle.loops.specs.Inputs.{no_percent}
 use Rattle.loops.specs.Meaning.{Ranges, Followed, Scanned, Entered}
 use Rattle.loops.proofs.Given.{admits, declined, yes_so}
 use Rattle.pid_fields.specs.declared.fields.Fields.{Fields}
@@ -26,7 +26,7 @@ use Rattle.pid_meaning.proofs.Setpoints.{RemoteHeld, percent_in, percent_fits}
 use Rattle.pid_meaning.proofs.Scans.{Sound, scans_on, scans_keep}
 use Rattle.pid_meaning.proofs.Entries.{EntryHeld, follows_keep, enters_keep, put_law, enters_on}
 use Rattle.pid.specs.declared.states.Pid.{Pid}
-use Rattle.pid.specs.Kind.{state_of, as_state, with_aim, whole, told_of, scanned_of, followed_of, entered_of}
+use Rattle.pid.specs.Kind.{state_of, with_aim, whole, told_of, scanned_of, followed_of, entered_of}
 
 -- ---- a sound state as a loop
 

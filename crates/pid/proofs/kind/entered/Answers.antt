@@ -1,4 +1,4 @@
-use Rattle.std.proofs.Common.{◌≡◌, sym, ap, ◌∙◌, rules}
+use Rattle.std.proofs.Common.{sym, ap, ◌∙◌, rules}
 use Rattle.pid_meaning.proofs.Entries.{EntryHeld}
 use Rattle.pid.specs.Kind.{with_aim}
 use Rattle.pid.specs.Lifting.{made, entry_sound}

@@ -1,4 +1,4 @@
-use Rattle.std.proofs.Common.{◌≡◌, T, sym, ap, ◌∙◌, rules}
+use Rattle.std.proofs.Common.{T, sym, ap, ◌∙◌, rules}
 use lib.Ieee.{fits, binary32}
 use Rattle.pid.specs.Kind.{with_aim}
 use Rattle.pid.specs.Lifting.{made, follow_sound}

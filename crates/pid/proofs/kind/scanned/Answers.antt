@@ -1,4 +1,4 @@
-use Rattle.std.proofs.Common.{◌≡◌, T, sym, ◌∙◌, rules}
+use Rattle.std.proofs.Common.{T, sym, ◌∙◌, rules}
 use lib.Ieee.{fits, binary32}
 use Rattle.pid_meaning.proofs.Setpoints.{RemoteHeld}
 use Rattle.pid.specs.Lifting.{made, scan_sound}
