@@ -29,7 +29,7 @@ use Rattle.hand.specs.Checks.{station_checks, good}
 use Rattle.hand.specs.Starting.{percent_of}
 use Rattle.hand.specs.Scanning.{held_fields, put_fields, with_alm, scan_of, follow_of, entry_of, told_of_fields}
 use Rattle.hand.specs.Kind.{whole, scanned, followed, entered, told, as_fields_after}
-use Rattle.hand.specs.Stations.{man_word, goodness, is_good}
+use Rattle.hand.specs.Goodness.{man_word, goodness, is_good}
 
 -- ---- what a station's fields are known to be
 

@@ -5,5 +5,5 @@ pub mod Starting
 pub mod Writing
 pub mod Scanning
 pub mod Kind
+pub mod Goodness
 pub mod Laws
-pub mod Stations

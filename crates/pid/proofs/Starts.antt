@@ -12,7 +12,7 @@ use Rattle.pid_fields.specs.Checks.{good, good_e2}
 use Rattle.pid_fields.proofs.Goodness.{goodness}
 use Rattle.pid_steps.specs.Control.{scans_in_period}
 use Rattle.pid_meaning.proofs.Facts.{facts}
-use Rattle.pid_meaning.proofs.Setpoints.{percent_in, good_percent}
+use Rattle.pid_meaning.proofs.Setpoints.{percent_in, good_percent as percent_is_good}
 use Rattle.pid_meaning.proofs.Renewals.{old_past, good_renewed}
 use Rattle.pid_meaning.proofs.Controls.{zero_held}
 use Rattle.pid.specs.Starting.{percent_of, cold_past, cold_fields, started_fields}
@@ -22,8 +22,8 @@ pub percent_inside : (f : Fields) → T (good f) → T (inside zero hundred (per
 unfolding inside
 percent_inside f t = let k = facts f t in let p = percent_in f k f.sv k.sv in both (le zero (percent_of f)) (le (percent_of f) hundred) p.0 p.1
 
-pub good_aim : (f : Fields) → T (good f) → T (good_e2 (percent_of f))
-good_aim f t = good_percent f (facts f t)
+pub good_percent : (f : Fields) → T (good f) → T (good_e2 (percent_of f))
+good_percent f t = percent_is_good f (facts f t)
 
 good_cold : (f : Fields) → T (good f) → T (good (cold_fields f))
 good_cold f t =

@@ -12,7 +12,7 @@ use Rattle.block.specs.Checks.{◌next◌}
 use Rattle.block.proofs.Passing.{OnOk, ok_by, next_ok, not_ok, split}
 use Rattle.loops.specs.Outcomes.{where_so}
 use Rattle.loops.specs.Inputs.{no_percent}
-use Rattle.loops.specs.Meaning.{Ranges, Followed, Scanned, Entered}
+use Rattle.loops.specs.Meaning.{Ranges, Echoes, Followed, Scanned, Entered}
 use Rattle.loops.proofs.Given.{admits, declined, yes_so}
 use Rattle.pid_fields.specs.declared.fields.Fields.{Fields}
 use Rattle.pid_fields.specs.Checks.{good, good_e2}
@@ -95,6 +95,9 @@ module _ (k : Pid) where
         e2_real = aim_fits;
         s_real = percent_fits k.fields f k.fields.sv;
       }
+
+  pub echoes : Echoes false (told_of k)
+  echoes = tt
 
   pub follows : (p : Float) → T (fits binary32 p) → Within p bottom top → (j : Pid) × (followed_of k p ≡ Ok j) × Followed false p (told_of k) (told_of j)
   follows p h w =

@@ -6,7 +6,6 @@ ghost use Rattle.pid_steps.specs.Scanning.{scan_of, follow_of};
 ghost use Rattle.pid_steps.specs.Entering.{entry_of};
 ghost use Rattle.pid.specs.Kind.{state_of, as_state, with_aim, told_of, alarm_word, scanned_of, followed_of, entered_of};
 ghost use Rattle.pid.specs.Lifting as pid;
-ghost use Rattle.std.proofs.Common.{rules, arith};
 
 use crate::states::Pid;
 use loops::kind::Loop;
@@ -81,7 +80,7 @@ impl Loop for Pid {
 
     ghost ranges = { pid.ranges };
 
-    ghost echoes = { first_of (Prim.search rules, Prim.grind (arith, Self.row.coded.inj)) };
+    ghost echoes = { pid.echoes };
 
     ghost follows = { pid.follows };
 

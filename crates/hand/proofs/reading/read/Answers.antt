@@ -1,5 +1,5 @@
 use Rattle.std.proofs.Common.{sym}
-use Rattle.hand.specs.Stations.{read_good}
+use Rattle.hand.proofs.Stations.{read_good}
 use Rattle.hand.proofs.reading.read.Goals as goal
 
 pub invariant_of-result : goal.invariant_of-result

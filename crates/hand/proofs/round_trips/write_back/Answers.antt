@@ -3,7 +3,7 @@ use Rattle.std.proofs.lemmas.Result.{err_from_is_err_and}
 use Rattle.terms.specs.declared.refusal.Refusal.{Refusal}
 use Rattle.block.specs.Checks.{done}
 use Rattle.hand.specs.declared.fields.Fields.{Fields}
-use Rattle.hand.specs.Stations.{block_trip}
+use Rattle.hand.proofs.Stations.{block_trip}
 use Rattle.hand.proofs.round_trips.write_back.Goals as goal
 
 pub returns-in_err-read_warm : goal.returns-in_err-read_warm

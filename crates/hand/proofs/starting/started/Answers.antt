@@ -1,7 +1,7 @@
 use Rattle.std.proofs.Common.{T, sym, subst}
 use Rattle.hand.specs.declared.fields.Fields.{Fields}
 use Rattle.hand.specs.Checks.{good}
-use Rattle.hand.specs.Stations.{good_started}
+use Rattle.hand.proofs.Stations.{good_started}
 use Rattle.hand.proofs.starting.started.Goals as goal
 
 pub invariant_of-result : goal.invariant_of-result

@@ -2,7 +2,7 @@ use Rattle.std.proofs.Common.{T, sym, subst}
 use lib.Ieee.{Float}
 use Rattle.reals.specs.Numbers.{zero, hundred}
 use Rattle.reals.specs.Reals.{inside}
-use Rattle.hand.specs.Stations.{percent_inside}
+use Rattle.hand.proofs.Stations.{percent_inside}
 use Rattle.hand.proofs.states.Hand.percent.Goals as goal
 
 pub returns : goal.returns

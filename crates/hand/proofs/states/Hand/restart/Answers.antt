@@ -1,7 +1,7 @@
 use Rattle.std.proofs.Common.{◌≡◌, ◌∙◌}
 use Rattle.block.proofs.Passing.{not_ok}
 use Rattle.hand.specs.Reading.{read_of}
-use Rattle.hand.specs.Stations.{loop_trip}
+use Rattle.hand.proofs.Stations.{loop_trip}
 use Rattle.hand.proofs.states.Hand.restart.Goals as goal
 
 pub returns-in_err-self : goal.returns-in_err-self

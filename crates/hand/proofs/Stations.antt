@@ -2,7 +2,7 @@
 use Rattle.std.specs.Prelude.{◌≡◌, ℕ, ◌<◌, true, not, T, List, [], ◌∷◌, length, Ok, ◌==◌, is_nan, refl}
 use Rattle.std.proofs.Common.{sym, ap, subst, ◌∙◌, eqb→eq, lit<}
 use lib.Ieee.{of_bits}
-use Rattle.std.specs.Float.Ieee.{fits, le}
+use Rattle.std.specs.Float.Ieee.{le}
 use Rattle.std.specs.Float.Order.{le_right}
 use Rattle.reals.specs.Numbers.{zero, hundred, bottom, top}
 use Rattle.reals.specs.Reals.{inside}
@@ -25,24 +25,7 @@ use Rattle.hand.specs.Checks.{station_checks, good}
 use Rattle.hand.specs.Reading.{fields_of, checked_of, read_of}
 use Rattle.hand.specs.Starting.{percent_of, cold_fields, started_fields}
 use Rattle.hand.specs.Writing.{named_words, written}
-
--- ---- fields that pass every check
-
--- the MODE word that a hand station writes
-abbrev pub man_word : Fields → ℕ
-man_word f = mode_word f.key Man
-
-pub record Good (f : Fields) : Type 0 where
-  pub checks : T (sound (station_checks f (man_word f)))
-  pub kept : T (fits binary32 f.mv)
-
-pub goodness : (f : Fields) → T (good f) → Good f
-unfolding good
-goodness f t = let a = split (sound (station_checks f (man_word f))) (fits binary32 f.mv) t in record { checks = a.0; kept = a.1 }
-
-pub is_good : (f : Fields) → Good f → T (good f)
-unfolding good
-is_good f g = both _ _ g.checks g.kept
+use Rattle.hand.specs.Goodness.{man_word, goodness, is_good}
 
 pub good_started : (s : Start) (f : Fields) → T (good f) → T (good (started_fields s f))
 good_started Cold f t = let g = goodness f t in is_good (cold_fields f) record { checks = g.checks; kept = g.kept }
