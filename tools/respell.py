@@ -2,8 +2,8 @@
 """Respells this repository's own definitions, lemmas and record fields in snake case: with_trkf for with-trkf, units_in for unitsIn.
 
 Run once, at the top, on what port.py of Rattle's kit left. A name is the repository's own where a line of crates/*/specs or crates/*/proofs
-declares it. Names of the library, of types and modules, and of Rattle's goals (proofs/FUNCTION/Answers.antt) stay as they are. Prints the names
-that fall together with another one, and changes nothing where there is such a name that OTHER does not settle.
+declares it. Names of the library, of types and modules, and of Rattle's goals (proofs/FUNCTION/Answers.antt) stay as they are. Prints first
+the names whose new form stands somewhere already, for a reader to judge (a function of the same name does no harm); with --list it changes nothing.
 """
 import collections, glob, re, sys
 

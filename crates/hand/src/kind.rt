@@ -9,6 +9,7 @@ ghost use Rattle.hand.specs.Laws as laws;
 use crate::scanning::{enter_fields, follow_fields, scan_fields, tell_fields};
 use crate::states::Hand;
 use loops::kind::Loop;
+use loops::settling::settle;
 use terms::entry::Entry;
 use terms::refusal::{Cause, Refusal};
 use terms::told::Told;
@@ -43,20 +44,6 @@ fn entered(k: &Hand, entry: Entry) -> Result<Hand, Cause>
     match enter_fields(k.fields, entry) {
         Ok(fields) => Ok(Hand { fields }),
         Err(cause) => Err(cause),
-    }
-}
-
-// Takes over the station that an accepted call came to; a refused call leaves the station as found.
-fn take(k: &mut Hand, outcome: Result<Hand, Cause>) -> Result<(), Refusal>
-    ensures answers { result ≡ at_top (done outcome) }
-    ensures leaves { k.new ≡ after k.old outcome }
-{
-    match outcome {
-        Ok(next) => {
-            *k = next;
-            Ok(())
-        }
-        Err(cause) => Err(Refusal { cause, level: 0 }),
     }
 }
 
@@ -105,13 +92,9 @@ impl Loop for Hand {
         ensures leaves { self.new ≡ after self.old (scanned_of self.old m remote) }
         ensures plainly { as_fields_after (scanned_of self.old m remote) ≡ scan_of self.old.fields m remote }
     {
-        match scanned(self, m, remote) {
-            Ok(k) => {
-                *self = k;
-                Ok((self.fields.mv, self.fields.alm))
-            }
-            Err(cause) => Err(Refusal { cause, level: 0 }),
-        }
+        let outcome = scanned(self, m, remote);
+        settle(self, outcome)?;
+        Ok((self.fields.mv, self.fields.alm))
     }
 
     // A follow: a p in −10..110 becomes the output.
@@ -121,7 +104,7 @@ impl Loop for Hand {
         ensures plainly { as_fields_after (followed_of self.old p) ≡ follow_of self.old.fields p }
     {
         let outcome = followed(self, p);
-        take(self, outcome)
+        settle(self, outcome)
     }
 
     // An entry: MAN, an output, stop and run are taken, and all else is refused.
@@ -131,6 +114,6 @@ impl Loop for Hand {
         ensures plainly { as_fields_after (entered_of self.old entry) ≡ entry_of self.old.fields entry }
     {
         let outcome = entered(self, entry);
-        take(self, outcome)
+        settle(self, outcome)
     }
 }
