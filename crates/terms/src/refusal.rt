@@ -1,54 +1,54 @@
 // Why a call is refused, and where.
 ghost use Rattle.std.specs.Prelude.{◌≡◌};
-ghost use Rattle.terms.specs.Refusals.{step_number, cause_number, cause_place};
+ghost use Rattle.terms.specs.Refusals.{step_number, cause_number, cause_place, refused};
 
 use crate::place::Place;
-use std::fmt;
+use thiserror::Error;
 
-// Why a call is refused.
-#[derive(Clone, Copy, Drop)]
+/// Why a call is refused.
+#[derive(Clone, Copy, Debug, PartialEq, Eq, Error)]
 pub enum Cause {
-    // not 128 words
+    #[error("not 128 words")]
     WrongLength,
-    // a real that is infinite or NaN
+    #[error("a real that is not finite")]
     NotFinite(Place),
-    // a value outside its range
+    #[error("a value outside its range")]
     OutOfRange(Place),
-    // a MODE word, or a mode that is entered, that the loop does not carry
+    /// a MODE word, or a mode that is entered
+    #[error("MODE names no mode of this loop")]
     ModeNotCarried,
-    // ML above MH
+    #[error("ML is above MH")]
     LimitsCrossed,
-    // RH − RL below 1/1024
+    #[error("RH - RL is below 1/1024")]
     SpanTooSmall,
-    // CT ÷ ΔT above 32767
+    #[error("CT / dT is above 32767")]
     PeriodTooLong,
-    // an entry to this place that the loop's mode, or its kind, does not allow
+    /// an entry to this place that the loop's mode, or its kind, does not allow
+    #[error("an entry that the loop does not take now")]
     NotAllowed(Place),
-    // an operation of this step of a scan whose outcome is infinite or NaN
+    /// an operation of this step of a scan whose outcome is infinite or NaN
+    #[error("a step with no finite result")]
     NoFiniteResult(Step),
 }
 
-// The two steps of a scan whose operations are checked.
-#[derive(Clone, Copy, Drop)]
+/// The two steps of a scan whose operations are checked.
+#[derive(Clone, Copy, Debug, PartialEq, Eq)]
 pub enum Step {
-    Control,
-    Output,
+    Control = 3,
+    Output = 4,
 }
 
 impl Step {
-    // The step's number, by which a refusal names it.
+    /// The step's number, by which a refusal names it.
     pub fn number(self) -> u16
         ensures { result ≡ step_number self }
     {
-        match self {
-            Step::Control => 3,
-            Step::Output => 4,
-        }
+        self as u16
     }
 }
 
 impl Cause {
-    // The number by which the cause is told.
+    /// The number by which the cause is told.
     pub fn number(self) -> u16
         ensures { result ≡ cause_number self }
     {
@@ -63,7 +63,7 @@ impl Cause {
         }
     }
 
-    // The number of the place at fault; 0 where it is the call as a whole.
+    /// The number of the place at fault; 0 where it is the call as a whole.
     pub fn place(self) -> u16
         ensures { result ≡ cause_place self }
     {
@@ -81,45 +81,19 @@ impl Cause {
     }
 }
 
-// A refusal: its cause, and the level of the loop that refuses. A call without levels tells level 0.
-#[derive(Clone, Copy, Drop)]
+/// A refusal: its cause, and the level of the loop that refuses.
+#[derive(Clone, Copy, Debug, PartialEq, Eq, Error)]
+#[error("refused by {}, level {level}, place {}: {cause}", .cause.number(), .cause.place())]
 pub struct Refusal {
     pub cause: Cause,
     pub level: u64,
 }
 
-impl Cause {
-    // The cause in words.
-    fn text(self) -> &'static str {
-        match self {
-            Cause::WrongLength => "not 128 words",
-            Cause::NotFinite(_) => "a real that is not finite",
-            Cause::OutOfRange(_) => "a value outside its range",
-            Cause::ModeNotCarried => "MODE names no mode of this loop",
-            Cause::LimitsCrossed => "ML is above MH",
-            Cause::SpanTooSmall => "RH - RL is below 1/1024",
-            Cause::PeriodTooLong => "CT / dT is above 32767",
-            Cause::NotAllowed(_) => "an entry that the loop does not take now",
-            Cause::NoFiniteResult(_) => "a step with no finite result",
-        }
-    }
-}
+/// A call without levels tells level 0.
+impl From<Cause> for Refusal {
+    ghost from_gives = { λ cause refusal. refusal ≡ refused cause };
 
-impl fmt::Display for Refusal {
-    fn fmt<W: fmt::Write>(&self, f: &mut fmt::Formatter<W>) -> fmt::Result {
-        let number = self.cause.number();
-        let place = self.cause.place();
-        let level = self.level;
-        let text = self.cause.text();
-        write!(
-            f,
-            "refused by {number}, level {level}, place {place}: {text}"
-        )
-    }
-}
-
-impl fmt::Debug for Refusal {
-    fn fmt<W: fmt::Write>(&self, f: &mut fmt::Formatter<W>) -> fmt::Result {
-        write!(f, "{self}")
+    fn from(cause: Cause) -> Refusal {
+        Refusal { cause, level: 0 }
     }
 }
