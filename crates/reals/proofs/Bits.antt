@@ -1,7 +1,7 @@
 -- Bit patterns of f32: below the infinity's, a pattern is a finite float's, and comes back from it. Assumes nothing.
-use Rattle.std.proofs.Common.{◌≡◌, ℕ, zero, suc, ◌+◌, ◌/◌, ◌%◌, ◌^◌, ◌<◌, ◌≤◌, Bool, true, false, cond, not, T, eqb, ltb, sym, refl, ◌∙◌, subst, true≢false, div-lt_iff_lt-mul, lt_of_not-le, arith, pow_pos, eq-eqb, ne_eqb}
+use Rattle.std.proofs.Common.{◌≡◌, ℕ, zero, suc, ◌+◌, ◌/◌, ◌%◌, ◌^◌, ◌<◌, ◌≤◌, Bool, true, false, cond, not, T, eqb, sym, refl, subst, true≢false, div-lt_iff_lt-mul, lt_of_not-le, arith, pow_pos, eq-eqb, ne_eqb}
 use lib.Ieee.{Float, Format, nan, inf, fin, binary32, prec, low, odd, hid, ones, top, of_fields, of_bits, to_bits, nan_bits, is_nan, fits}
-use lib.Ieee.Bits.{of_bits-to_bits, to_bits-of_bits, nan_bits_is, nan_bits_above}
+use lib.Ieee.Bits.{of_bits-to_bits, to_bits-of_bits, nan_bits_is}
 use Rattle.std.specs.Float.{float_is_finite}
 use Rattle.std.proofs.num.Patterns.{below_the_nans}
 use Rattle.reals.specs.Reals.{pattern, real_of, low_word, high_word}
@@ -25,6 +25,12 @@ Plain b = b % 0x8000_0000 < 0x7f80_0000
 pub bits_finite : (b : ℕ) → Plain b → T (float_is_finite (of_bits binary32 b))
 unfolding of_bits
 bits_finite b h = fields_finite binary32 _ (b % top binary32 / hid binary32) (b % hid binary32) ((div-lt_iff_lt-mul (pow_pos 23)).1 h)
+
+pub bits_of_nan : (x : Float) → true ≡ is_nan x → to_bits binary32 x ≡ 0x7fc0_0000
+unfolding is_nan to_bits
+bits_of_nan nan e = refl
+bits_of_nan (inf s) e = absurd (true≢false e)
+bits_of_nan (fin s m g) e = absurd (true≢false e)
 
 pub bits_no_nan : (b : ℕ) → Plain b → T (not (nan_bits binary32 b))
 bits_no_nan b h = below_the_nans binary32 b (omega arith)
@@ -65,22 +71,3 @@ real_back x p = let e : pattern (low_word x) (high_word x) ≡ to_bits binary32 
 
 pub pattern_kept : (low high : ℕ) → low < 2 ^ 16 → high < 2 ^ 16 → PatternKept low high
 pattern_kept low high l h = record { finite_by = bits_finite (pattern low high); finite_only = finite_bits (pattern low high); low_kept = low_back low high l h; high_kept = high_back low high l h }
-
-only_nan : (x : Float) → is_nan x ≡ true → x ≡ nan
-unfolding is_nan
-only_nan nan e = refl
-only_nan (inf s) e = absurd (true≢false (sym e))
-only_nan (fin s m g) e = absurd (true≢false (sym e))
-
--- a pattern above infinity's is NaN's, and no other is
-pub nan_real : (b : ℕ) → ltb 0x7f80_0000 (b % 0x8000_0000) ≡ true → of_bits binary32 b ≡ nan
-nan_real b t = only_nan (of_bits binary32 b) (sym (nan_bits_is binary32 b) ∙ nan_bits_above binary32 b ∙ t)
-
-pub other_real : (b : ℕ) → ltb 0x7f80_0000 (b % 0x8000_0000) ≡ false → T (not (nan_bits binary32 b))
-other_real b t = subst (λ (x : Bool). T (not x)) (sym (nan_bits_above binary32 b ∙ t)) tt
-
-pub bits_of_nan : (x : Float) → true ≡ is_nan x → to_bits binary32 x ≡ 0x7fc0_0000
-unfolding is_nan to_bits
-bits_of_nan nan e = refl
-bits_of_nan (inf s) e = absurd (true≢false e)
-bits_of_nan (fin s m g) e = absurd (true≢false e)

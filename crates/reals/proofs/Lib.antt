@@ -4,4 +4,5 @@ pub mod Sums
 pub mod Bits
 pub mod Sizes
 pub mod Finite
+pub mod Stepping
 pub mod Chains

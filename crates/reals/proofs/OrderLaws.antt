@@ -1,7 +1,7 @@
 -- The order of reals: what is brought into a range, and that IEEE equality goes with `≤`. Assumes nothing.
 use Rattle.std.proofs.Common.{◌≡◌, ℕ, ◌*◌, Bool, true, false, cond, not, T, eqb, ◌⊎◌, sym, refl, inl, inr, arith, eqb→eq}
 use lib.Dec.{not_T}
-use lib.Ieee.{Float, nan, inf, fin, up, down, level, lt, eq, le, is_nan}
+use lib.Ieee.{Float, nan, inf, fin, up, down, level, lt, eq, le, is_nan, of_bits}
 use lib.Ieee.Bits.{is_true}
 use lib.Ieee.Fits.{and_l, and_r, and_i, eq→eqb}
 use Rattle.std.specs.Float.{float_is_finite}
@@ -9,8 +9,14 @@ use Rattle.std.proofs.lemmas.Bool.{or_cases, or_right}
 use Rattle.std.specs.Bool.{passes}
 use Rattle.std.specs.Float.Order.{le_of_lt, lt_of_not-le, le_of_not-lt, le_left, le_right, lt_irrefl, le_refl, le_trans, lt_of_lt_of_le, lt_of_le_of_lt}
 use Rattle.reals.proofs.Units.{iff}
-use Rattle.reals.specs.Reals.{brought, inside}
+use Rattle.reals.specs.Numbers.{zero, hundred}
+use Rattle.reals.specs.Reals.{brought, inside, Within}
 use Rattle.reals.specs.Laws.{TotalOrder, Equality, Brought}
+
+-- a test of a range, as two comparisons
+pub range : (low high x : Float) → T (inside low high x) → Within x low high
+unfolding inside
+range low high x t = (and_l (le low x) _ t, and_r (le low x) _ t)
 
 -- ---- what is brought into a range
 
@@ -27,6 +33,15 @@ bring_low x a b n o = bring_by (λ r. T (le a r)) x a b n o (λ _. le_refl a (le
 
 pub bring_high : (x a b : Float) → T (not (is_nan x)) → T (le a b) → T (le (brought x a b) b)
 bring_high x a b n o = bring_by (λ r. T (le r b)) x a b n o (λ _. o) (λ _. le_refl b (le_right a b o)) (λ p q. q)
+
+pub bring_in : (x a b : Float) → T (not (is_nan x)) → T (le a b) → Within (brought x a b) a b
+bring_in x a b n o = (bring_low x a b n o, bring_high x a b n o)
+
+zero_hundred : T (le zero hundred)
+zero_hundred = unfold le in unfold of_bits in tt
+
+pub percent_in : (x : Float) → T (not (is_nan x)) → Within (brought x zero hundred) zero hundred
+percent_in x n = bring_in x zero hundred n zero_hundred
 
 -- a bound below y and v stays below what y is brought to, where v is at most h; a bound above them stays above it, where v is at least l
 pub bring_keeps_low : (low y v l h : Float) → T (le low y) → T (le low v) → T (le v h) → T (not (is_nan y)) → T (le l h) → T (le low (brought y l h))

@@ -1,81 +1,61 @@
-// The order of reals, and what is brought into a range.
-// Each law stands on a public call; the line that decides the value is in a private function beside it.
-ghost use Rattle.std.specs.Prelude.{◌≡◌, ◌&&◌};
-ghost use Rattle.std.specs.Float.Ieee.{le, eq};
+// The order of reals, and bands of them.
+ghost use Rattle.std.specs.Prelude.{◌≡◌};
+ghost use Rattle.std.specs.Float.Ieee.{eq};
 ghost use Rattle.reals.specs.Reals.{brought, inside, less, more};
 ghost use Rattle.reals.specs.Laws.{TotalOrder, Equality, Brought, Steps, StepsFinite};
 
-fn lies_in(x: f32, low: f32, high: f32) -> bool
-    ensures { result ≡ (le low x && le x high) }
-{
-    low <= x && x <= high
-}
-
-// Whether x lies in low..high. No NaN does.
-pub fn within(x: f32, low: f32, high: f32) -> bool
-    ensures value { result ≡ inside low high x }
-    ensures order { TotalOrder }
-{
-    lies_in(x, low, high)
-}
-
-fn equal(x: f32, y: f32) -> bool
-    ensures { result ≡ eq x y }
-{
-    x == y
-}
-
-// Whether x and y are equal as IEEE 754 compares them: −0 equals +0, and NaN equals nothing.
+/// Whether x and y are equal as IEEE 754 compares them: −0 equals +0, and NaN equals nothing.
+#[tactic(auto, using(crate::proofs::OrderLaws::equality))]
 pub fn same(x: f32, y: f32) -> bool
     ensures value { result ≡ eq x y }
     ensures equality { Equality }
 {
-    equal(x, y)
+    x == y
 }
 
-fn limited(x: f32, low: f32, high: f32) -> f32
-    ensures { result ≡ brought x low high }
-{
-    if x < low {
-        low
-    } else if high < x {
-        high
-    } else {
-        x
-    }
-}
-
-// x brought into low..high: the limit that x is past, or x itself.
-pub fn bring(x: f32, low: f32, high: f32) -> f32
-    ensures value { result ≡ brought x low high }
-    ensures range { Brought x low high }
-{
-    limited(x, low, high)
-}
-
-// The band around a real that a step reaches.
-#[derive(Clone, Copy, Drop)]
+/// The reals from `low` to `high`, both ends included. Where `low` is above `high` it holds nothing.
+#[derive(Clone, Copy, Debug, PartialEq)]
 pub struct Band {
     pub low: f32,
     pub high: f32,
 }
 
-fn reached(x: f32, d: f32) -> Band
-    ensures low { result.low ≡ less x d }
-    ensures high { result.high ≡ more x d }
-{
-    Band {
-        low: x - d,
-        high: x + d,
+impl Band {
+    /// Whether x lies in the band. No NaN does.
+    #[tactic(auto, using(crate::proofs::OrderLaws::total_order), unfolding(crate::specs::Reals::inside))]
+    pub fn contains(self, x: f32) -> bool
+        ensures value { result ≡ inside self.low self.high x }
+        ensures order { TotalOrder }
+    {
+        self.low <= x && x <= self.high
     }
-}
 
-// x − d and x + d, each rounded once. For d of at least 0 the band holds x; for x in −10..110 and d in 0..100 both are finite.
-pub fn step_band(x: f32, d: f32) -> Band
-    ensures low { result.low ≡ less x d }
-    ensures high { result.high ≡ more x d }
-    ensures around { Steps x d }
-    ensures stays_finite { StepsFinite x d }
-{
-    reached(x, d)
+    /// x brought into the band: the end that x is past, or x itself.
+    #[tactic(auto, using(crate::proofs::OrderLaws::brought_in))]
+    pub fn bring(self, x: f32) -> f32
+        ensures value { result ≡ brought x self.low self.high }
+        ensures range { Brought x self.low self.high }
+    {
+        if x < self.low {
+            self.low
+        } else if self.high < x {
+            self.high
+        } else {
+            x
+        }
+    }
+
+    /// The band that a step of d reaches from x: x − d to x + d, each rounded once. For d of at least 0 it holds x; for x in −10..110 and d in 0..100 both ends are finite.
+    #[tactic(auto, using(crate::proofs::Stepping::steps, crate::proofs::Stepping::steps_finite))]
+    pub fn around(x: f32, d: f32) -> Band
+        ensures low { result.low ≡ less x d }
+        ensures high { result.high ≡ more x d }
+        ensures around { Steps x d }
+        ensures stays_finite { StepsFinite x d }
+    {
+        Band {
+            low: x - d,
+            high: x + d,
+        }
+    }
 }
