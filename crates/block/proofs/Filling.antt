@@ -1,14 +1,17 @@
 -- What filled words hold. Assumes nothing.
-use Rattle.std.proofs.Common.{◌≡◌, ℕ, zero, suc, ◌+◌, ◌^◌, ◌<◌, Bool, true, false, cond, T, eqb, ◌≢◌, List, [], ◌∷◌, ◌++◌, length, get_or, drop, set, sym, refl, ap, ◌∙◌, subst, add-one, arith, eqb→eq, length-set, drop-cons, get_or-set_other, get_or-set_same, eq-eqb}
-use lib.Seq.{set-get_or, drop-length}
+use Rattle.std.proofs.Common.{◌≡◌, ℕ, zero, suc, ◌+◌, ◌<◌, cond, T, eqb, List, [], ◌∷◌, ◌++◌, length, get_or, drop, set, sym, refl, ap, ◌∙◌, subst, arith, length-set, get_or-set_other, eq-eqb, ne_eqb, inl, inr}
+use lib.Seq.{set-get_or}
 use lib.Ieee.{Float, binary32, fits}
 use Rattle.std.specs.Float.{float_is_finite}
+use Rattle.std.proofs.lemmas.Bool.{cases_eq}
+use Rattle.std.proofs.lemmas.Grind.{get_or-set_at}
 use Rattle.reals.specs.Reals.{real_of, low_word, high_word}
 use Rattle.reals.proofs.Bits.{real_back, low_back, high_back}
 use Rattle.terms.specs.declared.place.Place.{Place}
 use Rattle.terms.specs.Refusals.{place_number}
-use Rattle.block.specs.Words.{word_at, real_at, fill, two_words}
-use Rattle.block.specs.Checks.{Check, sound, is_finite}
+use Rattle.block.specs.Words.{word_at, real_at, Sixteen, fill, two_words}
+use Rattle.block.specs.declared.checks.Check.{Check}
+use Rattle.block.specs.Checks.{sound, is_finite}
 use Rattle.block.proofs.Passing.{split}
 
 -- what a list of fillings puts at offset i, over w
@@ -21,11 +24,7 @@ fill_length [] ws = refl
 fill_length (e ∷ es) ws = fill_length es (set ws e.0 e.1) ∙ length-set ws e.0 e.1
 
 one_filled : (ws : List ℕ) (j w i : ℕ) → i < length ws → get_or (set ws j w) i 0 ≡ cond (eqb i j) w (get_or ws i 0)
-one_filled ws j w i h = go (eqb i j) refl
-  where
-    go : (b : Bool) → eqb i j ≡ b → get_or (set ws j w) i 0 ≡ cond b w (get_or ws i 0)
-    go true e = let s : i ≡ j = eqb→eq i j (subst T (sym e) tt) in rw s (get_or-set_same ws j w 0 (subst (λ (k : ℕ). k < length ws) s h))
-    go false e = let n : i ≢ j = λ s. let z = eq-eqb i j s in let o : ◌≡◌ {A = ℕ} 0 1 = cc in omega arith in get_or-set_other ws j i w 0 n
+one_filled ws j w i h = elim (cases_eq i j) [ inl e ↦ rw (eq-eqb i j e) (get_or-set_at ws j i w 0 e (omega arith)) | inr n ↦ rw (ne_eqb i j n) (get_or-set_other ws j i w 0 n) ]
 
 pub fill_get : (es : List (ℕ × ℕ)) (ws : List ℕ) (i : ℕ) → i < length ws → get_or (fill es ws) i 0 ≡ look es i (get_or ws i 0)
 fill_get [] ws i h = refl
@@ -71,22 +70,9 @@ abbrev pub words_all : List ℕ → List Place → List (ℕ × ℕ)
 words_all ws [] = []
 words_all ws (p ∷ ps) = two_words p (real_at ws p) ++ words_all ws ps
 
--- each word has 16 bits
-abbrev pub Sixteen : List ℕ → Type 0
-Sixteen ws = (i : ℕ) → get_or ws i 0 < 2 ^ 16
-
 pub all_agree : (ws : List ℕ) → Sixteen ws → (ps : List Place) → T (sound (finite_all ws ps)) → Agrees (words_all ws ps) ws
 all_agree ws b [] t = tt
 all_agree ws b (p ∷ ps) t =
     let s = split (float_is_finite (real_at ws p)) (sound (finite_all ws ps)) t in
     let n = place_number p in
     (low_back (get_or ws n 0) (get_or ws (n + 1) 0) (b n) (b (n + 1)) s.0, (high_back (get_or ws n 0) (get_or ws (n + 1) 0) (b n) (b (n + 1)) s.0, all_agree ws b ps s.1))
-
--- ---- one entry of a table after another
-
-pub fill_step : (t : List (ℕ × ℕ)) (i : ℕ) (ws vs : List ℕ) → i < length t → vs ≡ set ws (get_or t i (0, 0)).0 (get_or t i (0, 0)).1 → fill (drop (i + 1) t) vs ≡ fill (drop i t) ws
-fill_step t i ws vs h e =
-    (λ k. fill (drop (add-one i k) t) (e k)) ∙ ap (λ (r : List (ℕ × ℕ)). fill r ws) (sym (drop-cons t i (0, 0) h))
-
-pub fill_end : (t : List (ℕ × ℕ)) (i : ℕ) (ws : List ℕ) → i ≡ length t → fill (drop i t) ws ≡ ws
-fill_end t i ws e = ap (λ (n : ℕ). fill (drop n t) ws) e ∙ ap (λ (r : List (ℕ × ℕ)). fill r ws) (drop-length t)

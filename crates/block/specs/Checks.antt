@@ -8,25 +8,27 @@ use Rattle.terms.specs.declared.refusal.Cause.TheVariants.{WrongLength, NotFinit
 use Rattle.terms.specs.declared.refusal.Refusal.{Refusal}
 use Rattle.terms.specs.Refusals.{refused}
 use Rattle.block.specs.Words.{block_length}
+use Rattle.block.specs.declared.checks.Check.{Check}
 
--- a test, with the cause of the refusal where it fails
-abbrev pub Check : Type 0
-Check = Bool × Cause
+-- whether a check passes, and the cause of the refusal where it fails
+abbrev pub check : Bool → Cause → Check
+check b c = record { passes = b; cause = c }
 
--- the first cause whose test fails
+-- the cause of the first check that fails
 abbrev pub passed : List Check → Result Unit Cause
 passed [] = Ok tt
-passed (check ∷ rest) = cond check.0 (passed rest) (Err check.1)
+passed (c ∷ rest) = cond c.passes (passed rest) (Err c.cause)
 
 abbrev pub all : List Bool → Bool
 all [] = true
 all (b ∷ rest) = b && all rest
 
--- whether every test of a list of checks passes
+-- which checks of a list pass
 abbrev pub tests : List Check → List Bool
 tests [] = []
-tests (check ∷ rest) = check.0 ∷ tests rest
+tests (c ∷ rest) = c.passes ∷ tests rest
 
+-- whether every check passes
 abbrev pub sound : List Check → Bool
 sound cs = all (tests cs)
 
@@ -38,11 +40,11 @@ abbrev pub ◌next◌ : {A B E : Type 0} → Result A E → (A → Result B E) �
 
 -- the real x of a place is finite
 abbrev pub is_finite : Place → Float → Check
-is_finite p x = (float_is_finite x, NotFinite p)
+is_finite p x = check (float_is_finite x) (NotFinite p)
 
 -- the real x of a place lies in low..high
 abbrev pub is_in : Float → Float → Place → Float → Check
-is_in low high p x = (inside low high x, OutOfRange p)
+is_in low high p x = check (inside low high x) (OutOfRange p)
 
 -- a cause as a refusal of a call without levels
 abbrev pub at_top : {A : Type 0} → Result A Cause → Result A Refusal
@@ -51,7 +53,7 @@ at_top (Err c) = Err (refused c)
 
 -- a block has 128 words
 abbrev pub length_checks : List ℕ → List Check
-length_checks ws = ((length ws == block_length), WrongLength) ∷ []
+length_checks ws = check (length ws == block_length) WrongLength ∷ []
 
 -- what writing answers: it refuses nothing but a wrong length
 abbrev pub write_answer : List ℕ → Result Unit Refusal

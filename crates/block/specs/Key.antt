@@ -1,5 +1,5 @@
 -- The mode key: the bit of the MODE word that stands for each mode.
-use Rattle.std.specs.Prelude.{ℕ, ◌^◌, Bool, cond, not, ◌&&◌, Some, None, Option, ◌==◌, nat_lt}
+use Rattle.std.specs.Prelude.{ℕ, ◌^◌, Bool, cond, not, ◌&&◌, Option, ◌==◌, nat_lt, [], ◌∷◌, find}
 use Rattle.terms.specs.declared.mode.Mode.{Mode}
 use Rattle.terms.specs.declared.mode.Mode.TheVariants.{Man, Aut, Cas}
 use Rattle.block.specs.declared.key.ModeKey.{ModeKey}
@@ -22,4 +22,4 @@ mode_word k Cas = bit_word k.cas
 
 -- the mode that a MODE word names: exactly one of the three bits, and no other bit
 abbrev pub mode_in : ModeKey → ℕ → Option Mode
-mode_in k w = cond (w == mode_word k Man) (Some Man) (cond (w == mode_word k Aut) (Some Aut) (cond (w == mode_word k Cas) (Some Cas) None))
+mode_in k w = find (λ m. w == mode_word k m) (Man ∷ Aut ∷ Cas ∷ [])

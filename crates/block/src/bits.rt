@@ -12,7 +12,7 @@ const MHA: u16 = 0x0002;
 const MLA: u16 = 0x0001;
 
 // Every bit of ALM but the three alarms.
-const OTHERS: u16 = 0xf7fc;
+const OTHERS: u16 = !(DMLA | MHA | MLA);
 
 // INH: ERRI inhibits every alarm, and an alarm's own bit that alarm.
 const ERRI: u16 = 0x8000;
@@ -20,54 +20,54 @@ const ERRI: u16 = 0x8000;
 // TRKF, bit 13 of INH: the next scan that drives begins from the output as it stands.
 const TRKF: u16 = 0x2000;
 
-// The alarms that a scan finds.
-#[derive(Clone, Copy, Drop)]
+/// The alarms that a scan finds.
+#[derive(Clone, Copy, Debug, PartialEq, Eq)]
 pub struct Alarms {
     pub dmla: bool,
     pub mha: bool,
     pub mla: bool,
 }
 
-// Whether ALM has SPA.
+/// Whether ALM has SPA.
 pub fn is_stopped(alm: u16) -> bool
     ensures { result ≡ stopped alm }
 {
     alm & SPA != 0
 }
 
-// ALM with SPA set.
+/// ALM with SPA set.
 pub fn with_spa(alm: u16) -> u16
     ensures { result ≡ with_spa alm }
 {
     alm | SPA
 }
 
-// ALM with SPA cleared.
+/// ALM with SPA cleared.
 pub fn without_spa(alm: u16) -> u16
     ensures { result ≡ without_spa alm }
 {
-    alm & 0xbfff
+    alm & !SPA
 }
 
-// Whether INH has TRKF.
+/// Whether INH has TRKF.
 pub fn is_tracking(inh: u16) -> bool
     ensures { result ≡ tracking inh }
 {
     inh & TRKF != 0
 }
 
-// INH with TRKF set.
+/// INH with TRKF set.
 pub fn with_trkf(inh: u16) -> u16
     ensures { result ≡ with_trkf inh }
 {
     inh | TRKF
 }
 
-// INH with TRKF cleared.
+/// INH with TRKF cleared.
 pub fn without_trkf(inh: u16) -> u16
     ensures { result ≡ without_trkf inh }
 {
-    inh & 0xdfff
+    inh & !TRKF
 }
 
 // An alarm's bit where the alarm is found and neither its own bit of INH nor ERRI inhibits it.
@@ -81,14 +81,14 @@ fn alarm_bit(found: bool, inh: u16, bit: u16) -> u16
     }
 }
 
-// ALM with the three alarms cleared.
+/// ALM with the three alarms cleared.
 pub fn alarms_off(alm: u16) -> u16
     ensures { result ≡ alarms_off alm }
 {
     alm & OTHERS
 }
 
-// ALM with the three alarms made anew; every other bit stays.
+/// ALM with the three alarms made anew; every other bit stays.
 pub fn alarms_made(alm: u16, inh: u16, a: Alarms) -> u16
     ensures { result ≡ alarms_made alm inh a }
 {

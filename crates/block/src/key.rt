@@ -4,8 +4,8 @@ ghost use Rattle.block.specs.Key.{key_valid, bit_word, mode_word, mode_in};
 
 use terms::mode::Mode;
 
-// The bit of the MODE word that stands for each mode.
-#[derive(Clone, Copy, Drop)]
+/// The bit of the MODE word that stands for each mode.
+#[derive(Clone, Copy, Debug, PartialEq, Eq)]
 pub struct ModeKey {
     pub man: u8,
     pub aut: u8,
@@ -16,11 +16,11 @@ pub struct ModeKey {
 fn bit_word(bit: u8) -> u16
     ensures { result ≡ bit_word bit }
 {
-    if bit < 16 { 1 << bit } else { 0 }
+    1u16.checked_shl(u32::from(bit)).unwrap_or(0)
 }
 
 impl ModeKey {
-    // Whether the key names three different bits of 0..15.
+    /// Whether the key names three different bits of 0..15.
     pub fn is_valid(self) -> bool
         ensures { result ≡ key_valid self }
     {
@@ -32,7 +32,7 @@ impl ModeKey {
             && self.aut != self.cas
     }
 
-    // The MODE word of a mode.
+    /// The MODE word of a mode.
     pub fn word(self, mode: Mode) -> u16
         ensures { result ≡ mode_word self mode }
     {
@@ -43,18 +43,13 @@ impl ModeKey {
         }
     }
 
-    // The mode that a MODE word names: one of the three bits, and no other.
+    /// The mode that a MODE word names: one of the three bits, and no other.
     pub fn mode(self, word: u16) -> Option<Mode>
         ensures { result ≡ mode_in self word }
     {
-        if word == self.word(Mode::Man) {
-            Some(Mode::Man)
-        } else if word == self.word(Mode::Aut) {
-            Some(Mode::Aut)
-        } else if word == self.word(Mode::Cas) {
-            Some(Mode::Cas)
-        } else {
-            None
-        }
+        [Mode::Man, Mode::Aut, Mode::Cas]
+            .iter()
+            .copied()
+            .find(|&mode| word == self.word(mode))
     }
 }

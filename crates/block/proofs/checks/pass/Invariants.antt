@@ -3,5 +3,5 @@ use Rattle.block.specs.Checks.{passed}
 use Rattle.block.proofs.checks.pass.Given as goal
 
 -- what is left decides as the whole does
-abbrev pub invariant-loop-test : goal.invariant-loop-test
-invariant-loop-test l = passed (drop l.test-index l.checks) ≡ passed l.checks
+abbrev pub invariant-loop-check : goal.invariant-loop-check
+invariant-loop-check l = passed (drop l.check-index l.checks) ≡ passed l.checks
