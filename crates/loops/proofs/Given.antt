@@ -1,19 +1,21 @@
 -- What the checks of a call's inputs say, and what every kind's laws go by. Assumes nothing.
-use Rattle.std.proofs.Common.{◌≡◌, Bool, true, false, cond, T, Some, None, Ok, Err, Option, Result, refl}
+use Rattle.std.proofs.Common.{◌≡◌, false, T, Some, None, Ok, Err, Option, Result, refl, inl, inr}
+use lib.Dec.{not_T}
 use lib.Ieee.{Float, of_bits}
+use lib.Ieee.Bits.{is_true, is_false}
+use Rattle.std.specs.Bool.{passes}
+use Rattle.std.proofs.lemmas.Bool.{cases_Bool, both_ways}
 use Rattle.std.specs.Float.{float_is_finite}
 use Rattle.std.specs.Float.Order.{le_right}
 use Rattle.terms.specs.declared.place.Place.{Place}
 use Rattle.terms.specs.declared.place.Place.TheVariants as at
-use Rattle.terms.specs.declared.refusal.Cause.{Cause}
-use Rattle.terms.specs.declared.refusal.Cause.TheVariants.{NotFinite, OutOfRange}
 use Rattle.reals.specs.Numbers.{bottom, top}
 use Rattle.reals.specs.Reals.{inside, Within, Same}
 use Rattle.reals.proofs.OrderLaws.{eq_refl, finite_between}
 use Rattle.block.specs.Checks.{passed, tests}
-use Rattle.block.proofs.Passing.{spread, gather, range, in_range, passed_sound, sound_passed, next_ok, OnOk}
-use Rattle.loops.specs.Outcomes.{where_so}
+use Rattle.block.proofs.Passing.{spread, gather, range, in_range, passed_sound, sound_passed, next_ok, if_ok, OnOk}
 use Rattle.loops.specs.Inputs.{percent_checks, inputs_passed, no_percent}
+use Rattle.loops.specs.Outcomes.{seen}
 
 -- ---- reals
 
@@ -33,12 +35,9 @@ pub admits : (p : Place) (x : Float) → Within x bottom top → passed (percent
 admits p x w = sound_passed (percent_checks p x) (gather (tests (percent_checks p x)) (finite_percent x w, (in_range bottom top x w, tt)))
 
 pub declined : (p : Float) → (Within p bottom top → ⊥) → passed (percent_checks at.Mv p) ≡ Err (no_percent p)
-declined p out = go (float_is_finite p) (inside bottom top p) (λ t. out (range bottom top p t))
-  where
-    go : (a b : Bool) → (T b → ⊥) → ◌≡◌ {A = Result (Unit {0}) Cause} (cond a (cond b (Ok tt) (Err (OutOfRange at.Mv))) (Err (NotFinite at.Mv))) (Err (cond a (OutOfRange at.Mv) (NotFinite at.Mv)))
-    go true true f = absurd (f tt)
-    go true false f = refl
-    go false b f = refl
+declined p out =
+    let i : inside bottom top p ≡ false = is_false _ (not_T _ (λ t. out (range bottom top p t))) in
+    elim (cases_Bool (float_is_finite p)) [ inl e ↦ rw (e, i) refl | inr e ↦ rw e refl ]
 
 abbrev pub RemoteIn : Option Float → Type 0
 RemoteIn None = Unit {0}
@@ -49,14 +48,15 @@ inputs m None e = (admitted at.Measured m e, tt)
 inputs m (Some r) e = let a = next_ok (passed (percent_checks at.Remote r)) (λ _. passed (percent_checks at.Measured m)) tt e in (admitted at.Measured m a.2, admitted at.Remote r a.1)
 
 pub inputs_on : (m : Float) (r : Option Float) → OnOk (λ _. Within m bottom top × RemoteIn r) (inputs_passed m r)
-inputs_on m r = go (inputs_passed m r) (inputs m r)
-  where
-    go : (o : Result (Unit {0}) Cause) → (o ≡ Ok tt → Within m bottom top × RemoteIn r) → OnOk (λ _. Within m bottom top × RemoteIn r) o
-    go (Ok x) h = h refl
-    go (Err e) h = tt
+inputs_on m r = if_ok (inputs_passed m r) (λ _ e. inputs m r e)
 
--- ---- a value that needs its condition
+-- a percentage lies in −10..110 or it does not
+pub either_way : (A : Type 0) (p : Float) → (Within p bottom top → A) → ((Within p bottom top → ⊥) → A) → A
+either_way A p yes_in out = elim (cases_Bool (inside bottom top p)) [ inl e ↦ yes_in (range bottom top p (passes _ e)) | inr e ↦ out (λ w. both_ways _ e (is_true _ (in_range bottom top p w))) ]
 
-pub yes_so : {A : Type 0} (b : Bool) (f : T b → A) (other : A) (t : T b) → where_so b f other ≡ f t
-yes_so true f other t = refl
-yes_so false f other t = absurd t
+-- ---- outcomes
+
+-- what is seen of an accepted outcome comes of what it is
+pub seen_ok : {A B E : Type 0} (f : A → B) (o : Result A E) (b : B) → seen f o ≡ Ok b → (a : A) × (o ≡ Ok a) × (f a ≡ b)
+seen_ok f (Ok a) b e = (a, refl, cc)
+seen_ok f (Err x) b e = cc

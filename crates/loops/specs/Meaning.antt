@@ -3,22 +3,14 @@ use Rattle.std.specs.Prelude.{◌≡◌, Bool, true, false, cond, ◌||◌, T, �
 use Rattle.std.specs.Float.{binary32}
 use Rattle.std.specs.Float.Ieee.{fits, le}
 use Rattle.terms.specs.declared.mode.Mode.{Mode}
-use Rattle.terms.specs.declared.mode.Mode.TheVariants.{Man, Aut, Cas}
+use Rattle.terms.specs.declared.mode.Mode.TheVariants.{Man}
 use Rattle.terms.specs.declared.told.Told.{Told}
+use Rattle.terms.specs.declared.entry.Limits.{Limits}
 use Rattle.terms.specs.declared.entry.Entry.{Entry}
 use Rattle.terms.specs.declared.entry.Entry.TheVariants as entry
+use Rattle.terms.specs.Modes.{manual, in_cascade}
 use Rattle.reals.specs.Numbers.{zero, hundred, bottom, top}
 use Rattle.reals.specs.Reals.{brought, Within, Same, less, more}
-
-abbrev pub manual : Mode → Bool
-manual Man = true
-manual Aut = false
-manual Cas = false
-
-abbrev pub in_cascade : Mode → Bool
-in_cascade Man = false
-in_cascade Aut = false
-in_cascade Cas = true
 
 -- a loop that a scan finds stopped or in MAN holds, and any other drives
 abbrev pub holds : Told → Bool
@@ -118,13 +110,13 @@ pub record SetpointEntered (t u : Told) : Type 0 where
   pub stopped : u.stopped ≡ t.stopped
   pub limits : SameLimits t u
 
-pub record LimitsEntered (mh ml dml : Float) (t u : Told) : Type 0 where
+pub record LimitsEntered (limits : Limits) (t u : Told) : Type 0 where
   pub output : OutputKept t u
   pub mode : u.mode ≡ t.mode
   pub stopped : u.stopped ≡ t.stopped
-  pub mh_set : Same u.mh mh
-  pub ml_set : Same u.ml ml
-  pub dml_set : Same u.dml dml
+  pub mh_set : Same u.mh limits.mh
+  pub ml_set : Same u.ml limits.ml
+  pub dml_set : Same u.dml limits.dml
   pub s : Same u.s t.s
 
 -- stop sets SPA, and run clears it
@@ -140,6 +132,6 @@ abbrev pub Entered : Bool → Entry → Told → Told → Type 0
 Entered echo (entry.Mode m) t u = ModeEntered m t u
 Entered echo (entry.Setpoint v) t u = SetpointEntered t u
 Entered echo (entry.Output v) t u = Followed echo v t u
-Entered echo (entry.Limits mh ml dml) t u = LimitsEntered mh ml dml t u
+Entered echo (entry.Limits limits) t u = LimitsEntered limits t u
 Entered echo entry.Stop t u = StopEntered true t u
 Entered echo entry.Run t u = StopEntered false t u

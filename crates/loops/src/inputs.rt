@@ -3,31 +3,24 @@ ghost use Rattle.std.specs.Prelude.{◌≡◌};
 ghost use Rattle.block.specs.Checks.{passed};
 ghost use Rattle.loops.specs.Inputs.{percent_checks, inputs_passed};
 
-use block::checks::pass;
-use reals::numbers::{BOTTOM, TOP};
-use reals::order::within;
+use block::checks::{Check, pass};
+use reals::numbers::OUTPUT;
 use terms::place::Place;
 use terms::refusal::Cause;
 
-// A percentage is finite, and then lies in −10..110.
+/// A percentage is finite, and then lies in −10..110.
 pub fn check_percent(place: Place, x: f32) -> Result<(), Cause>
     ensures { result ≡ passed (percent_checks place x) }
 {
-    pass(&[
-        (x.is_finite(), Cause::NotFinite(place)),
-        (within(x, BOTTOM, TOP), Cause::OutOfRange(place)),
-    ])
+    pass(&[Check::finite(place, x), Check::within(place, x, OUTPUT)])
 }
 
-// What a scan is handed: the remote value, where there is one, and then the measured value.
+/// What a scan is handed: the remote value, where there is one, and then the measured value.
 pub fn check_inputs(m: f32, remote: Option<f32>) -> Result<(), Cause>
     ensures { result ≡ inputs_passed m remote }
 {
-    match remote {
-        Some(x) => {
-            check_percent(Place::Remote, x)?;
-            check_percent(Place::Measured, m)
-        }
-        None => check_percent(Place::Measured, m),
+    if let Some(x) = remote {
+        check_percent(Place::Remote, x)?;
     }
+    check_percent(Place::Measured, m)
 }

@@ -1,6 +1,8 @@
-// What every kind of loop has in common: its calls and the laws that they keep, the checks of what is handed to a scan, and what a call does with its outcome.
+// Loops of every kind: the trait that a kind meets with its laws, a block that was read, a loop at work, and round trips through the words.
 #![tactic(auto)]
 
 pub mod inputs;
 pub mod kind;
-pub mod settling;
+pub mod reading;
+pub mod running;
+pub mod writing;
