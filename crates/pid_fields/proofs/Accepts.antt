@@ -49,14 +49,11 @@ accepted ws st f e =
 
 -- ---- what was read passes every check
 
-bits_held : (ws : List ℕ) (p : Place) → T (fits binary32 (real_at ws p))
-bits_held ws p = of_bits-fits binary32 _
-
 pub read_good : (ws : List ℕ) (st : Settings) (f : Fields) → T (fits binary32 st.dt) → T (fits binary32 st.md) → checked_of ws st ≡ Ok f → T (good f)
 read_good ws st f dt md e =
     let a = accepted ws st f e in
     let g = fields_of ws st in
-    let h = bits_held ws in
+    let h : (p : Place) → T (fits binary32 (real_at ws p)) = λ p. of_bits-fits binary32 _ in
     subst (λ (x : Fields). T (good x)) a.fields
     (is_good g
     record {

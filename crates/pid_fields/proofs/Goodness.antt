@@ -1,7 +1,7 @@
 -- What it says of fields that they pass every check, by name. Assumes nothing.
-use Rattle.std.proofs.Common.{T}
+use Rattle.std.proofs.Common.{Bool, ◌&&◌, T, arith}
 use Rattle.block.specs.Checks.{sound, all}
-use Rattle.block.proofs.Passing.{both, split}
+use Rattle.block.proofs.Passing.{both}
 use Rattle.pid_fields.specs.declared.fields.Fields.{Fields}
 use Rattle.pid_fields.specs.Checks.{settings_checks, finite_checks, range_checks, relation_checks, held, tuning_held, past_held, good}
 
@@ -14,16 +14,12 @@ pub record Good (f : Fields) : Type 0 where
   pub tuning_kept : T (all (tuning_held f.tuning))
   pub past_kept : T (all (past_held f.past))
 
+parts : (a b c d e g h : Bool) → T (a && (b && (c && (d && (e && (g && h)))))) → T a × T b × T c × T d × T e × T g × T h
+parts a b c d e g h t = grind arith
+
 pub goodness : (f : Fields) → T (good f) → Good f
 unfolding good
-goodness f t =
-    let a = split (sound (settings_checks f.settings)) _ t in
-    let b = split (sound (finite_checks f)) _ a.1 in
-    let c = split (sound (range_checks f)) _ b.1 in
-    let d = split (sound (relation_checks f)) _ c.1 in
-    let e = split (all (held f)) _ d.1 in
-    let g = split (all (tuning_held f.tuning)) (all (past_held f.past)) e.1 in
-    record { settings = a.0; reals = b.0; ranges = c.0; related = d.0; kept = e.0; tuning_kept = g.0; past_kept = g.1 }
+goodness f t = let p = parts _ _ _ _ _ _ _ t in record { settings = p.0; reals = p.1; ranges = p.2; related = p.3; kept = p.4; tuning_kept = p.5; past_kept = p.6 }
 
 pub is_good : (f : Fields) → Good f → T (good f)
 unfolding good

@@ -1,17 +1,15 @@
 -- Fields that were read fill their words with what these hold, and fields that were written are read again. Assumes nothing.
-use Rattle.std.proofs.Common.{◌≡◌, ℕ, ◌+◌, ◌<◌, true, ◌&&◌, T, eqb, List, [], ◌∷◌, ◌++◌, length, get_or, set, is_some, Some, Ok, Option, sym, refl, ap, ◌∙◌, subst, lit<}
+use Rattle.std.proofs.Common.{◌≡◌, ℕ, ◌+◌, ◌<◌, true, ◌&&◌, T, List, [], ◌∷◌, ◌++◌, length, get_or, set, is_some, Some, Ok, sym, refl, ap, ◌∙◌, subst, lit<, arith}
 use lib.Ieee.{Float, binary32, fits}
-use lib.Ieee.Fits.{eq→eqb}
-use Rattle.terms.specs.declared.mode.Mode.{Mode}
 use Rattle.terms.specs.declared.place.Place.{Place}
 use Rattle.terms.specs.declared.place.Place.TheVariants as at
 use Rattle.terms.specs.Refusals.{place_number}
 use Rattle.reals.specs.Reals.{low_word, high_word}
-use Rattle.block.specs.Words.{word_at, real_at, fill}
+use Rattle.block.specs.Words.{word_at, real_at, Sixteen, fill}
 use Rattle.block.specs.Key.{key_valid, mode_in, mode_word}
 use Rattle.block.specs.Checks.{length_checks, sound}
-use Rattle.block.proofs.Passing.{both, split, spread, step_passed}
-use Rattle.block.proofs.Filling.{look, Agrees, fill_agrees, drop_agrees, all_agree, Sixteen, real_kept, word_kept, fill_length}
+use Rattle.block.proofs.Passing.{split, spread, step_passed, whole_passes}
+use Rattle.block.proofs.Filling.{look, Agrees, fill_agrees, drop_agrees, all_agree, real_kept, word_kept, fill_length}
 use Rattle.block.proofs.Keys.{named_word, word_named}
 use Rattle.pid_fields.specs.declared.fields.Settings.{Settings}
 use Rattle.pid_fields.specs.declared.fields.Fields.{Fields}
@@ -55,15 +53,12 @@ module _ (f : Fields) (ws : List ℕ) (whole : length ws ≡ 128) (ok : T (good 
   abbrev w : List ℕ
   w = filled f ws
 
-  within : (n : ℕ) → n < 128 → n < length ws
-  within n h = subst (λ (m : ℕ). n < m) (sym whole) h
-
   kept : (p : Place) (x : Float) → place_number p + 1 < 128 → T (fits binary32 x)
       → look (all_words f) (place_number p) (get_or ws (place_number p) 0) ≡ low_word x → look (all_words f) (place_number p + 1) (get_or ws (place_number p + 1) 0) ≡ high_word x → real_at w p ≡ x
-  kept p x l h a b = real_kept (all_words f) ws p x (within (place_number p + 1) l) h a b
+  kept p x l h a b = real_kept (all_words f) ws p x (omega arith) h a b
 
   word : (p : Place) (x : ℕ) → place_number p < 128 → look (all_words f) (place_number p) (get_or ws (place_number p) 0) ≡ x → word_at w p ≡ x
-  word p x l e = word_kept (all_words f) ws p x (within (place_number p) l) e
+  word p x l e = word_kept (all_words f) ws p x (omega arith) e
 
   bounds : bounds_of w ≡ f.bounds
   bounds =
@@ -117,24 +112,14 @@ module _ (f : Fields) (ws : List ℕ) (whole : length ws ≡ 128) (ok : T (good 
       let sv = kept at.Sv f.sv (lit< tt) k.1.0 refl refl in
       λ i. record { mode = m i; alm = alm i; inh = inh i; mv = mv i; sv = sv i; counter = counter i; bounds = bounds i; tuning = tuning i; past = past i; settings = f.settings }
 
-  -- what holds of the fields holds of those that are read again
-  moved : (P : Fields → Type 0) → P f → P (fields_of w f.settings)
-  moved P h = subst P (sym fields) h
-
-  long : T (sound (length_checks w))
-  long = both (eqb (length w) 128) true (eq→eqb (fill_length (copy_words f.past) (fill (named_words f) ws) ∙ fill_length (named_words f) ws ∙ whole)) tt
-
-  carried : T (sound (mode_checks w f.settings))
-  carried = subst (λ (o : Option Mode). T (is_some o && true)) (sym mode) tt
-
   pub same_fields : checked_of w f.settings ≡ Ok f
   same_fields =
       let st = f.settings in
       let again = fields_of w st in
-      step_passed (length_checks w) _ long
+      step_passed (length_checks w) _ (whole_passes w (fill_length (copy_words f.past) (fill (named_words f) ws) ∙ fill_length (named_words f) ws ∙ whole))
       ∙ step_passed (settings_checks st) _ g.settings
-      ∙ step_passed (finite_checks again) _ (moved (λ x. T (sound (finite_checks x))) g.reals)
-      ∙ step_passed (mode_checks w st) _ carried
-      ∙ step_passed (range_checks again) _ (moved (λ x. T (sound (range_checks x))) g.ranges)
-      ∙ step_passed (relation_checks again) _ (moved (λ x. T (sound (relation_checks x))) g.related)
+      ∙ step_passed (finite_checks again) _ (subst T (λ i. sound (finite_checks (sym fields i))) g.reals)
+      ∙ step_passed (mode_checks w st) _ (subst T (λ i. is_some (sym mode i) && true) tt)
+      ∙ step_passed (range_checks again) _ (subst T (λ i. sound (range_checks (sym fields i))) g.ranges)
+      ∙ step_passed (relation_checks again) _ (subst T (λ i. sound (relation_checks (sym fields i))) g.related)
       ∙ ap Ok fields

@@ -5,7 +5,8 @@ use Rattle.std.specs.Float.Ieee.{lt, le, sub, div, to_unsigned, fits}
 use Rattle.terms.specs.declared.place.Place.TheVariants as at
 use Rattle.terms.specs.declared.refusal.Cause.TheVariants.{OutOfRange, LimitsCrossed, SpanTooSmall, PeriodTooLong}
 use Rattle.block.specs.Key.{key_valid}
-use Rattle.block.specs.Checks.{Check, is_finite, is_in, sound, all}
+use Rattle.block.specs.declared.checks.Check.{Check}
+use Rattle.block.specs.Checks.{check, is_finite, is_in, sound, all}
 use Rattle.pid_fields.specs.declared.fields.Settings.{Settings}
 use Rattle.pid_fields.specs.declared.fields.Tuning.{Tuning}
 use Rattle.pid_fields.specs.declared.fields.Past.{Past}
@@ -23,12 +24,12 @@ period_ok dt = lt zero dt && le dt most
 -- each setting finite and then in its range; key and PN are whole numbers
 abbrev pub settings_checks : Settings → List Check
 settings_checks st =
-    (key_valid st.key, OutOfRange at.ModeKey)
+    check (key_valid st.key) (OutOfRange at.ModeKey)
     ∷ is_finite at.ScanPeriod st.dt
-    ∷ (period_ok st.dt, OutOfRange at.ScanPeriod)
+    ∷ check (period_ok st.dt) (OutOfRange at.ScanPeriod)
     ∷ is_finite at.Md st.md
     ∷ is_in zero most at.Md st.md
-    ∷ (nat_le st.pn 1, OutOfRange at.Pn)
+    ∷ check (nat_le st.pn 1) (OutOfRange at.Pn)
     ∷ []
 
 -- every real finite, offsets rising
@@ -75,11 +76,11 @@ range_checks f =
 -- ML at most MH, RH − RL at least 1/1024, CT ÷ ΔT at most 32767; then SV and the counter
 abbrev pub relation_checks : Fields → List Check
 relation_checks f =
-    (le f.bounds.ml f.bounds.mh, LimitsCrossed)
-    ∷ (le narrowest (sub binary32 f.bounds.rh f.bounds.rl), SpanTooSmall)
-    ∷ (le (div binary32 f.tuning.ct f.settings.dt) longest, PeriodTooLong)
+    check (le f.bounds.ml f.bounds.mh) LimitsCrossed
+    ∷ check (le narrowest (sub binary32 f.bounds.rh f.bounds.rl)) SpanTooSmall
+    ∷ check (le (div binary32 f.tuning.ct f.settings.dt) longest) PeriodTooLong
     ∷ is_in f.bounds.rl f.bounds.rh at.Sv f.sv
-    ∷ (nat_lt f.counter (periods f.tuning.ct f.settings.dt), OutOfRange at.Counter)
+    ∷ check (nat_lt f.counter (periods f.tuning.ct f.settings.dt)) (OutOfRange at.Counter)
     ∷ []
 
 -- ---- the fields of a loop pass every check, and binary32 holds each of their reals

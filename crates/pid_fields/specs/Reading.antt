@@ -1,5 +1,6 @@
 -- Reading a PID block: the fields that its words hold, or the first refusal.
-use Rattle.std.specs.Prelude.{ℕ, List, [], ◌∷◌, is_some, Some, None, Ok, Option, Result}
+use Rattle.std.specs.Prelude.{ℕ, List, [], ◌∷◌, is_some, Ok, Option, Result}
+use Rattle.std.specs.Option.{unwrap_or}
 use Rattle.terms.specs.declared.mode.Mode.{Mode}
 use Rattle.terms.specs.declared.mode.Mode.TheVariants.{Man}
 use Rattle.terms.specs.declared.place.Place.TheVariants as at
@@ -7,7 +8,8 @@ use Rattle.terms.specs.declared.refusal.Cause.{Cause}
 use Rattle.terms.specs.declared.refusal.Cause.TheVariants.{ModeNotCarried}
 use Rattle.block.specs.Words.{word_at, real_at}
 use Rattle.block.specs.Key.{mode_in}
-use Rattle.block.specs.Checks.{Check, length_checks, passed, ◌next◌}
+use Rattle.block.specs.declared.checks.Check.{Check}
+use Rattle.block.specs.Checks.{check, length_checks, passed, ◌next◌}
 use Rattle.pid_fields.specs.declared.fields.Settings.{Settings}
 use Rattle.pid_fields.specs.declared.fields.Bounds.{Bounds}
 use Rattle.pid_fields.specs.declared.fields.Tuning.{Tuning}
@@ -49,8 +51,7 @@ mode_named ws st = mode_in st.key (word_at ws at.Mode)
 
 -- MAN stands in where MODE names no mode; such words are refused
 abbrev pub or_man : Option Mode → Mode
-or_man None = Man
-or_man (Some m) = m
+or_man named = unwrap_or named Man
 
 abbrev pub fields_with : List ℕ → Settings → Mode → Fields
 fields_with ws st m =
@@ -71,7 +72,7 @@ abbrev pub fields_of : List ℕ → Settings → Fields
 fields_of ws st = fields_with ws st (or_man (mode_named ws st))
 
 abbrev pub mode_checks : List ℕ → Settings → List Check
-mode_checks ws st = (is_some (mode_named ws st), ModeNotCarried) ∷ []
+mode_checks ws st = check (is_some (mode_named ws st)) ModeNotCarried ∷ []
 
 -- ---- what reading comes to: the checks in their order, and then the fields
 
