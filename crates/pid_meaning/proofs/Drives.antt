@@ -1,21 +1,21 @@
 -- Step 4: a holding loop keeps MV, and a driving one keeps its limits and its step. Assumes nothing.
-use Rattle.std.proofs.Common.{◌≡◌, Bool, true, false, cond, not, T, Some, Ok, sym, refl, subst, true≢false}
-use lib.Ieee.{Float, binary32, add, fits, le, lt, eq, is_nan, of_bits}
+use Rattle.std.proofs.Common.{◌≡◌, Bool, true, false, cond, not, T, Ok, sym, refl, subst, true≢false, rules}
+use lib.Ieee.{Float, binary32, add, fits, le, is_nan, of_bits}
 use lib.Ieee.Fits.{add-fits, sub-fits}
 use Rattle.std.specs.Float.{float_is_finite}
 use Rattle.std.specs.Float.Order.{le_trans, le_right}
 use Rattle.terms.specs.declared.mode.Mode.{Mode}
 use Rattle.terms.specs.declared.refusal.Step.TheVariants as step
-use Rattle.reals.specs.Numbers.{zero, one, hundred, bottom, top}
+use Rattle.reals.specs.Numbers.{zero, hundred, bottom, top}
 use Rattle.reals.specs.Reals.{brought, less, more, Within, Same}
-use Rattle.reals.specs.Checked.{plus, minus, times, over}
-use Rattle.reals.proofs.OrderLaws.{bring_low, bring_high, bring_same, bring_keeps_low, bring_keeps_high, bring_equal, finite_number, finite_between, eq_le, le_eq, eq_sym}
+use Rattle.reals.specs.Checked.{plus}
+use Rattle.reals.proofs.OrderLaws.{bring_in, bring_same, bring_keeps_low, bring_keeps_high, bring_equal, finite_number, finite_between, eq_le, le_eq, eq_sym}
 use Rattle.reals.proofs.Sums.{sub_down, add_up, zero_plus}
 use Rattle.reals.proofs.Chains.{Each, Held, real_each, then_each, then_any, cond_each, plus_held, brought_by}
 use Rattle.block.specs.Bits.{stopped, tracking}
 use Rattle.block.proofs.Masks.{stop_off, stop_made, track_set, track_cleared}
 use Rattle.block.proofs.Passing.{OnOk}
-use Rattle.loops.specs.Meaning.{manual}
+use Rattle.terms.specs.Modes.{manual}
 use Rattle.loops.proofs.Given.{self, finite_percent}
 use Rattle.pid_fields.specs.declared.fields.Fields.{Fields}
 use Rattle.pid_fields.proofs.Goodness.{Good}
@@ -81,7 +81,7 @@ module _ (f : Fields) (g : Good f) where
   around = (sub_down f.mv dml mv_finite k.mv_fits dml_finite k.dml_fits k.dml.0, add_up f.mv dml mv_finite k.mv_fits dml_finite k.dml_fits k.dml.0)
 
   ordered : T (le down up)
-  ordered = le_trans down f.mv up around.0 around.1
+  ordered = le_trans _ _ _ around.0 around.1
 
   -- ---- T
 
@@ -99,16 +99,10 @@ module _ (f : Fields) (g : Good f) where
   -- ---- MVP
 
   pulls : (limit t : Float) → Each Held (pulled f limit t)
-  pulls limit t =
-      then_any Held (over f.settings.dt f.tuning.ti) _ λ a.
-      then_any Held (minus limit t) _ λ b.
-      then_any Held (times (cond (lt one a) one a) b) _ λ c.
-      plus_held c t
+  pulls limit t = search (rules, then_any, plus_held)
 
   unwinds : (t : Float) → Held t → Each Held (unwound f t)
-  unwinds t h =
-      cond_each Held (eq f.tuning.ti zero) (Some t) _ h
-      (cond_each Held (lt f.bounds.mh t) (pulled f f.bounds.mh t) _ (pulls f.bounds.mh t) (cond_each Held (lt t f.bounds.ml) (pulled f f.bounds.ml t) (Some t) (pulls f.bounds.ml t) h))
+  unwinds t h = search (rules, cond_each, pulls)
 
   -- ---- T1 and the new MV
 
@@ -116,22 +110,19 @@ module _ (f : Fields) (g : Good f) where
     t_number : T (not (is_nan t))
     t_number = finite_number t h.real.is_finite
 
-    t1 : Float
-    t1 = stepped f t
-
     t1_in : Within (stepped f t) down up
-    t1_in = (bring_low t down up t_number ordered, bring_high t down up t_number ordered)
+    t1_in = bring_in t down up t_number ordered
 
     t1_number : T (not (is_nan (stepped f t)))
     t1_number = le_right down (stepped f t) t1_in.0
 
     new_in : Within (limited f t) f.bounds.ml f.bounds.mh
-    new_in = (bring_low (stepped f t) f.bounds.ml f.bounds.mh t1_number k.ordered, bring_high (stepped f t) f.bounds.ml f.bounds.mh t1_number k.ordered)
+    new_in = bring_in _ _ _ t1_number k.ordered
 
     new_fits : T (fits binary32 (limited f t))
     new_fits =
-        brought_by (λ z. T (fits binary32 z)) (stepped f t) f.bounds.ml f.bounds.mh
-        (brought_by (λ z. T (fits binary32 z)) t down up h.real.is_fit (sub-fits binary32 f.mv dml) (add-fits binary32 f.mv dml)) k.ml_fits k.mh_fits
+        let is_fit : Float → Type 0 = λ z. T (fits binary32 z) in
+        brought_by is_fit _ _ _ (brought_by is_fit _ _ _ h.real.is_fit (sub-fits _ _ _) (add-fits _ _ _)) k.ml_fits k.mh_fits
 
     within_step : Within f.mv f.bounds.ml f.bounds.mh → Within (limited f t) down up
     within_step w = (
@@ -148,7 +139,7 @@ module _ (f : Fields) (g : Good f) where
     driving : (mvp : Float) → Held mvp → Driven false f (driven_by f t mvp)
     driving mvp p =
         record {
-          mv_in = (le_trans bottom f.bounds.ml (limited f t) k.ml.0 new_in.0, le_trans (limited f t) f.bounds.mh top new_in.1 k.mh.1);
+          mv_in = (le_trans _ _ _ k.ml.0 new_in.0, le_trans _ _ _ new_in.1 k.mh.1);
           mv_fits = new_fits;
           mvp = p;
           stays_stopped = stop_made f.alm f.inh (alarms_of f t);
@@ -161,8 +152,8 @@ module _ (f : Fields) (g : Good f) where
 
   drives : (change : Float) → Each (Driven false f) (driven f change)
   drives change =
-      then_each Target (Driven false f) (target f change) _ (targets change) λ t h.
-      then_each Held (Driven false f) (unwound f t) _ (unwinds t h.real) λ mvp p.
+      then_each Target _ _ _ (targets change) λ t h.
+      then_each Held _ _ _ (unwinds t h.real) λ mvp p.
       driving t h mvp p
 
   pub fourth_on : (mode : Mode) (change : Float) → OnOk (Driven (manual mode) f) (fourth f mode change)

@@ -1,19 +1,19 @@
 -- A follow and an operator's entry to a PID loop keep the meaning of a loop, and every check of its block. Assumes nothing.
-use Rattle.std.proofs.Common.{◌≡◌, ℕ, false, T, Ok, refl}
+use Rattle.std.proofs.Common.{◌≡◌, ℕ, false, T, Ok, refl, rules}
 use lib.Ieee.{Float, binary32, fits, le}
 use Rattle.terms.specs.declared.mode.Mode.{Mode}
 use Rattle.terms.specs.declared.told.Told.{Told}
 use Rattle.terms.specs.declared.entry.Entry.{Entry}
 use Rattle.terms.specs.declared.entry.Entry.TheVariants as entry
 use Rattle.terms.specs.declared.place.Place.TheVariants as at
-use Rattle.reals.specs.Numbers.{zero, hundred, bottom, top}
+use Rattle.reals.specs.Numbers.{bottom, top}
 use Rattle.reals.specs.Reals.{Within, Same}
 use Rattle.block.specs.Bits.{with_trkf, with_spa, without_spa}
 use Rattle.block.specs.Checks.{passed, sound, tests}
 use Rattle.block.proofs.Masks.{track_set, stop_set, stop_cleared}
 use Rattle.block.proofs.Passing.{OnOk, next_on, next_any, passed_on, split, spread, range}
 use Rattle.loops.specs.Meaning.{Followed, OutputKept, Entered}
-use Rattle.loops.specs.Inputs.{percent_checks}
+use Rattle.loops.specs.Inputs.{percent_checks, EntryHeld}
 use Rattle.loops.proofs.Given.{self}
 use Rattle.pid_fields.specs.declared.fields.Fields.{Fields}
 use Rattle.pid_fields.specs.Checks.{good, good_e2}
@@ -23,17 +23,8 @@ use Rattle.pid_steps.specs.Scanning.{put_output, follow_of}
 use Rattle.pid_steps.specs.Entering.{setpoint_checks, output_checks, limits_checks, with_state, with_limits, entry_of}
 use Rattle.pid_meaning.specs.Telling.{told_state}
 use Rattle.pid_meaning.proofs.Facts.{Facts, facts_of}
-use Rattle.pid_meaning.proofs.Renewals.{old_past, Renewal, good_renewed, limits, good_limits}
+use Rattle.pid_meaning.proofs.Renewals.{old_past, Renewal, good_renewed, limits_in, good_limits}
 use Rattle.pid_meaning.proofs.Scans.{same_s, same_limits}
-
--- the reals of an entry that is handed in are binary32 numbers
-abbrev pub EntryHeld : Entry → Type 0
-EntryHeld (entry.Mode m) = Unit {0}
-EntryHeld (entry.Setpoint v) = T (fits binary32 v)
-EntryHeld (entry.Output v) = T (fits binary32 v)
-EntryHeld (entry.Limits mh ml dml) = T (fits binary32 mh) × T (fits binary32 ml) × T (fits binary32 dml)
-EntryHeld entry.Stop = Unit {0}
-EntryHeld entry.Run = Unit {0}
 
 module _ (k : State) (g : Good k.fields) where
   abbrev f : Fields
@@ -61,27 +52,22 @@ module _ (k : State) (g : Good k.fields) where
   good_state mode alm sv w h = good_renewed f g mode alm f.inh f.mv sv f.counter f.past (renewal f.mv sv known.mv known.mv_fits w h)
 
   in_percent : (v : Float) → T (sound (percent_checks at.Mv v)) → Within v bottom top
-  in_percent v s = range bottom top v (spread (tests (percent_checks at.Mv v)) s).1.0
+  in_percent v s = let checks = spread (tests (percent_checks at.Mv v)) s in search (rules, range)
 
   in_output : (v : Float) → T (sound (output_checks f v)) → Within v bottom top
-  in_output v s = range bottom top v (spread (tests (output_checks f v)) s).1.1.0
+  in_output v s = let checks = spread (tests (output_checks f v)) s in search (rules, range)
 
   in_setpoint : (v : Float) → T (sound (setpoint_checks f v)) → Within v f.bounds.rl f.bounds.rh
-  in_setpoint v s = range f.bounds.rl f.bounds.rh v (spread (tests (setpoint_checks f v)) s).1.1.0
+  in_setpoint v s = let checks = spread (tests (setpoint_checks f v)) s in search (rules, range)
 
   pub follows_keep : (p : Float) → T (fits binary32 p) → OnOk (λ h. T (good h)) (follow_of f p)
-  follows_keep p h = next_on (λ _. T (sound (percent_checks at.Mv p))) (λ h. T (good h)) (passed (percent_checks at.Mv p)) (λ _. Ok (put_output f p)) (passed_on (percent_checks at.Mv p)) λ _ s. good_put p (in_percent p s) h
+  follows_keep p h = next_on _ _ _ _ (passed_on (percent_checks at.Mv p)) λ _ s. good_put p (in_percent p s) h
 
   pub enters_keep : (e : Entry) → EntryHeld e → OnOk (λ h. T (good h)) (entry_of f e)
   enters_keep (entry.Mode m) h = good_state m f.alm f.sv known.sv known.sv_fits
-  enters_keep (entry.Setpoint v) h =
-      next_on (λ _. T (sound (setpoint_checks f v))) (λ h. T (good h)) (passed (setpoint_checks f v)) (λ _. Ok (with_state f f.mode f.alm v)) (passed_on (setpoint_checks f v)) λ _ s.
-      good_state f.mode f.alm v (in_setpoint v s) h
-  enters_keep (entry.Output v) h =
-      next_on (λ _. T (sound (output_checks f v))) (λ h. T (good h)) (passed (output_checks f v)) (λ _. Ok (put_output f v)) (passed_on (output_checks f v)) λ _ s. good_put v (in_output v s) h
-  enters_keep (entry.Limits mh ml dml) h =
-      next_on (λ _. T (sound (limits_checks mh ml dml))) (λ h. T (good h)) (passed (limits_checks mh ml dml)) (λ _. Ok (with_limits f mh ml dml)) (passed_on (limits_checks mh ml dml)) λ _ s.
-      good_limits f g mh ml dml s h.0 h.1 h.2
+  enters_keep (entry.Setpoint v) h = next_on _ _ _ _ (passed_on (setpoint_checks f v)) λ _ s. good_state f.mode f.alm v (in_setpoint v s) h
+  enters_keep (entry.Output v) h = next_on _ _ _ _ (passed_on (output_checks f v)) λ _ s. good_put v (in_output v s) h
+  enters_keep (entry.Limits l) h = next_on _ _ _ _ (passed_on (limits_checks l)) λ _ s. good_limits f g l s h
   enters_keep entry.Stop h = good_state f.mode (with_spa f.alm) f.sv known.sv known.sv_fits
   enters_keep entry.Run h = good_state f.mode (without_spa f.alm) f.sv known.sv known.sv_fits
 
@@ -119,18 +105,17 @@ module _ (k : State) (g : Good k.fields) where
     enters_on (entry.Setpoint v) =
         next_any (After (entry.Setpoint v)) (passed (setpoint_checks f v)) (λ _. Ok (with_state f f.mode f.alm v)) λ _.
         record { output = kept _ refl refl refl; mode = refl; stopped = refl; limits = same_limits k g _ refl refl refl }
-    enters_on (entry.Output v) =
-        next_on (λ _. T (sound (output_checks f v))) (After (entry.Output v)) (passed (output_checks f v)) (λ _. Ok (put_output f v)) (passed_on (output_checks f v)) λ _ s. put_law v (in_output v s)
-    enters_on (entry.Limits mh ml dml) =
-        next_on (λ _. T (sound (limits_checks mh ml dml))) (After (entry.Limits mh ml dml)) (passed (limits_checks mh ml dml)) (λ _. Ok (with_limits f mh ml dml)) (passed_on (limits_checks mh ml dml)) λ _ s.
-        let l = limits mh ml dml s in
+    enters_on (entry.Output v) = next_on _ _ _ _ (passed_on (output_checks f v)) λ _ s. put_law v (in_output v s)
+    enters_on (entry.Limits l) =
+        next_on _ (After (entry.Limits l)) _ (λ _. Ok (with_limits f l)) (passed_on (limits_checks l)) λ _ s.
+        let i = limits_in l s in
         record {
           output = kept _ refl refl refl;
           mode = refl;
           stopped = refl;
-          mh_set = self mh bottom top l.mh_in;
-          ml_set = self ml bottom top l.ml_in;
-          dml_set = self dml zero hundred l.dml_in;
+          mh_set = self _ _ _ i.mh_in;
+          ml_set = self _ _ _ i.ml_in;
+          dml_set = self _ _ _ i.dml_in;
           s = same_s k g;
         }
     enters_on entry.Stop = record { output = kept _ refl refl refl; mode = refl; stopped = stop_set f.alm; limits = same_limits k g _ refl refl refl; s = same_s k g }

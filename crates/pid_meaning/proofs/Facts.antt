@@ -1,5 +1,5 @@
 -- What the checks say of the fields of a loop, by name. Assumes nothing.
-use Rattle.std.proofs.Common.{T, ltb}
+use Rattle.std.proofs.Common.{T, ltb, rules}
 use lib.Ieee.{binary32, fits, le, sub}
 use Rattle.reals.specs.Numbers.{zero, hundred, bottom, top, least, most, narrowest}
 use Rattle.reals.specs.Reals.{Within}
@@ -31,30 +31,11 @@ pub record Facts (f : Fields) : Type 0 where
 
 pub facts_of : (f : Fields) → Good f → Facts f
 facts_of f g =
-    let b = f.bounds in
-    let r = spread (tests (range_checks f)) g.ranges in
-    let s = spread (tests (relation_checks f)) g.related in
-    let h = spread (held f) g.kept in
-    let t = spread (tuning_held f.tuning) g.tuning_kept in
-    record {
-      mv = range bottom top f.mv r.0;
-      mh = range bottom top b.mh r.1.0;
-      ml = range bottom top b.ml r.1.1.0;
-      ordered = s.0;
-      dml = range zero hundred f.tuning.dml r.1.1.1.1.1.1.0;
-      rh = range least most b.rh r.1.1.1.0;
-      rl = range least most b.rl r.1.1.1.1.0;
-      wide = s.1.0;
-      sv = range b.rl b.rh f.sv s.1.1.1.0;
-      counter = s.1.1.1.1.0;
-      mv_fits = h.0;
-      sv_fits = h.1.0;
-      mh_fits = h.1.1.0;
-      ml_fits = h.1.1.1.0;
-      rh_fits = h.1.1.1.1.0;
-      rl_fits = h.1.1.1.1.1.0;
-      dml_fits = t.1.0;
-    }
+    let ranges = spread (tests (range_checks f)) g.ranges in
+    let relations = spread (tests (relation_checks f)) g.related in
+    let kept = spread (held f) g.kept in
+    let tuning = spread (tuning_held f.tuning) g.tuning_kept in
+    search (rules, range)
 
 pub facts : (f : Fields) → T (good f) → Facts f
 facts f t = facts_of f (goodness f t)

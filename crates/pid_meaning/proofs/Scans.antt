@@ -7,10 +7,10 @@ use Rattle.terms.specs.declared.told.Told.{Told}
 use Rattle.reals.specs.Numbers.{zero, hundred, bottom, top}
 use Rattle.reals.specs.Reals.{Within, Same}
 use Rattle.block.specs.Bits.{stopped, tracking}
-use Rattle.block.specs.Checks.{◌next◌}
 use Rattle.block.proofs.Passing.{OnOk, next_on, next_any}
-use Rattle.loops.specs.Meaning.{manual, in_cascade, SameLimits, Moved, Aimed, Scanned}
-use Rattle.loops.specs.Inputs.{inputs_passed}
+use Rattle.terms.specs.Modes.{manual, in_cascade}
+use Rattle.loops.specs.Meaning.{SameLimits, Moved, Aimed, Scanned}
+use Rattle.loops.specs.Inputs.{RemoteHeld}
 use Rattle.loops.proofs.Given.{self, RemoteIn, inputs_on, finite_percent}
 use Rattle.pid_fields.specs.declared.fields.Fields.{Fields}
 use Rattle.pid_fields.specs.Checks.{good, good_e2}
@@ -19,10 +19,10 @@ use Rattle.pid_steps.specs.declared.control.Control.{Control}
 use Rattle.pid_steps.specs.declared.output.Drive.{Drive}
 use Rattle.pid_steps.specs.declared.scanning.State.{State}
 use Rattle.pid_steps.specs.Setpoint.{percent_at, percent_of, mode_of, aim_of}
-use Rattle.pid_steps.specs.Scanning.{third, fourth, with_mvp, left_by, steps, scan_of}
+use Rattle.pid_steps.specs.Scanning.{third, with_mvp, left_by, scan_of}
 use Rattle.pid_meaning.specs.Telling.{told_state}
 use Rattle.pid_meaning.proofs.Facts.{Facts, facts_of}
-use Rattle.pid_meaning.proofs.Setpoints.{RemoteHeld, percent_in, aim_sv, aim_e2}
+use Rattle.pid_meaning.proofs.Setpoints.{percent_in, aim_sv, aim_e2}
 use Rattle.pid_meaning.proofs.Renewals.{Renewal, good_renewed}
 use Rattle.pid_meaning.proofs.Controls.{Controlled, third_on}
 use Rattle.pid_meaning.proofs.Drives.{Moves, Driven, fourth_on}
@@ -92,12 +92,10 @@ module _ (k : State) (g : Good k.fields) where
   -- what an accepted scan does
   pub scans_on : (m : Float) (r : Option Float) → OnOk (λ j. Scanned false r t (told_state j)) (scan_of f m r)
   scans_on m r =
-      let P : State → Type 0 = λ j. Scanned false r t (told_state j) in
       let mode = mode_of f in
-      let aim = aim_of mode f.sv f.bounds r in
-      next_on (λ _. Within m bottom top × RemoteIn r) P (inputs_passed m r) (λ _. steps f mode aim m) (inputs_on m r) λ _ i.
-      next_any P (third f mode aim.s m) (λ c. fourth f mode c.change next λ d. Ok (left_by f mode aim c d)) λ c.
-      next_on (Driven (manual mode) f) P (fourth f mode c.change) (λ d. Ok (left_by f mode aim c d)) (fourth_on f g mode c.change) λ d h.
+      next_on (λ _. Within m bottom top × RemoteIn r) _ _ _ (inputs_on m r) λ _ i.
+      next_any _ (third f mode (aim_of mode f.sv f.bounds r).s m) _ λ c.
+      next_on _ _ _ _ (fourth_on f g mode c.change) λ d h.
       scanned_law r c d i.1 h
 
   -- ---- what it leaves passes every check
@@ -119,7 +117,7 @@ module _ (k : State) (g : Good k.fields) where
   scans_keep m r fm fr =
       let mode = mode_of f in
       let aim = aim_of mode f.sv f.bounds r in
-      next_on (λ _. Within m bottom top × RemoteIn r) Sound (inputs_passed m r) (λ _. steps f mode aim m) (inputs_on m r) λ _ i.
-      next_on (Controlled f) Sound (third f mode aim.s m) (λ c. fourth f mode c.change next λ d. Ok (left_by f mode aim c d)) (third_on f g mode aim.s m (record { is_finite = finite_percent m i.0; is_fit = fm })) λ c q.
-      next_on (Driven (manual mode) f) Sound (fourth f mode c.change) (λ d. Ok (left_by f mode aim c d)) (fourth_on f g mode c.change) λ d h.
+      next_on (λ _. Within m bottom top × RemoteIn r) _ _ _ (inputs_on m r) λ _ i.
+      next_on (Controlled f) _ _ _ (third_on f g mode aim.s m (record { is_finite = finite_percent m i.0; is_fit = fm })) λ c q.
+      next_on _ Sound _ (λ d. Ok (left_by f mode aim c d)) (fourth_on f g mode c.change) λ d h.
       record { fields = good_renewed f g mode d.alm d.inh d.mv aim.sv c.counter (with_mvp c.past d.mvp) (renewal r c d i.1 q h); aim = aim_e2 f known mode r i.1 fr }

@@ -8,23 +8,16 @@ use Rattle.terms.specs.declared.mode.Mode.{Mode}
 use Rattle.terms.specs.declared.mode.Mode.TheVariants.{Man, Aut, Cas}
 use Rattle.reals.specs.Numbers.{zero, hundred, bottom, top, least, most}
 use Rattle.reals.specs.Reals.{Within}
-use Rattle.reals.proofs.OrderLaws.{bring_low, bring_high, finite_number}
+use Rattle.reals.proofs.OrderLaws.{bring_in, percent_in as brought_percent, finite_number}
 use Rattle.reals.proofs.Finite.{percent_finite, remote_finite}
 use Rattle.reals.proofs.Chains.{brought_by}
 use Rattle.block.proofs.Passing.{both}
+use Rattle.loops.specs.Inputs.{RemoteHeld}
 use Rattle.loops.proofs.Given.{RemoteIn}
 use Rattle.pid_fields.specs.declared.fields.Fields.{Fields}
 use Rattle.pid_fields.specs.Checks.{good_e2}
 use Rattle.pid_steps.specs.Setpoint.{percent_at, percent_of, remote_sv, aim_of}
 use Rattle.pid_meaning.proofs.Facts.{Facts}
-
--- a remote value that is handed in is a binary32 number
-abbrev pub RemoteHeld : Option Float → Type 0
-RemoteHeld None = Unit {0}
-RemoteHeld (Some r) = T (fits binary32 r)
-
-zero_hundred : T (le zero hundred)
-zero_hundred = unfold le in unfold of_bits in tt
 
 bottom_zero : T (le bottom zero)
 bottom_zero = unfold le in unfold of_bits in tt
@@ -33,7 +26,6 @@ hundred_top : T (le hundred top)
 hundred_top = unfold le in unfold of_bits in tt
 
 module _ (f : Fields) (k : Facts f) where
-  -- RL is at most RH, since SV lies between them
   abbrev rl : Float
   rl = f.bounds.rl
 
@@ -42,30 +34,30 @@ module _ (f : Fields) (k : Facts f) where
 
   pub percent_in : (sv : Float) → Within sv rl rh → Within (percent_at sv f.bounds) zero hundred
   percent_in sv w =
-      let n = finite_number _ (percent_finite rh rl sv k.rh k.rl k.wide (le_trans least rl sv k.rl.0 w.0, le_trans sv rh most w.1 k.rh.1)).3 in
-      (bring_low _ zero hundred n zero_hundred, bring_high _ zero hundred n zero_hundred)
+      let p = percent_finite rh rl sv k.rh k.rl k.wide (le_trans least rl sv k.rl.0 w.0, le_trans sv rh most w.1 k.rh.1) in
+      brought_percent _ (finite_number _ p.3)
 
   pub percent_fits : (sv : Float) → T (fits binary32 (percent_at sv f.bounds))
-  percent_fits sv = brought_by (λ z. T (fits binary32 z)) _ zero hundred (mul-fits binary32 _ _) (of_bits-fits binary32 0) (of_bits-fits binary32 0x42c8_0000)
+  percent_fits sv = brought_by (λ z. T (fits binary32 z)) _ _ _ (mul-fits _ _ _) (of_bits-fits _ 0) (of_bits-fits _ 0x42c8_0000)
 
   pub percent_wide : (sv : Float) → Within sv rl rh → Within (percent_at sv f.bounds) bottom top
-  percent_wide sv w = let p = percent_in sv w in (le_trans bottom zero _ bottom_zero p.0, le_trans _ hundred top p.1 hundred_top)
+  percent_wide sv w = let p = percent_in sv w in (le_trans _ _ _ bottom_zero p.0, le_trans _ _ _ p.1 hundred_top)
 
   pub good_aim : (e2 : Float) → Within e2 bottom top → T (fits binary32 e2) → T (good_e2 e2)
   unfolding good_e2
-  good_aim e2 w h = both (le bottom e2) _ w.0 (both (le e2 top) _ w.1 h)
+  good_aim e2 w h = both _ _ w.0 (both _ _ w.1 h)
 
   pub good_percent : T (good_e2 (percent_of f))
   good_percent = good_aim (percent_of f) (percent_wide f.sv k.sv) (percent_fits f.sv)
 
+  -- RL is at most RH, since SV lies between them
   remote_in : (r : Float) → Within r bottom top → Within (remote_sv r f.bounds) rl rh
   remote_in r w =
-      let n = finite_number _ (remote_finite rh rl r k.rh k.rl w.0 w.1).2 in
-      let o = le_trans rl f.sv rh k.sv.0 k.sv.1 in
-      (bring_low _ rl rh n o, bring_high _ rl rh n o)
+      let q = remote_finite rh rl r k.rh k.rl w.0 w.1 in
+      bring_in _ _ _ (finite_number _ q.2) (le_trans _ _ _ k.sv.0 k.sv.1)
 
   remote_fits : (r : Float) → T (fits binary32 (remote_sv r f.bounds))
-  remote_fits r = brought_by (λ z. T (fits binary32 z)) _ rl rh (add-fits binary32 _ _) k.rl_fits k.rh_fits
+  remote_fits r = brought_by (λ z. T (fits binary32 z)) _ _ _ (add-fits _ _ _) k.rl_fits k.rh_fits
 
   -- ---- what a scan aims at, by its mode
 

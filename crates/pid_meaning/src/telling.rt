@@ -7,7 +7,7 @@ use pid_steps::scanning::State;
 use pid_steps::setpoint::percent_at;
 use terms::told::Told;
 
-// What a loop of this state tells.
+/// What a loop of this state tells.
 pub fn tell_state(state: State) -> Told
     ensures { result ≡ told_state state }
 {

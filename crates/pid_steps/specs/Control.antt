@@ -5,7 +5,7 @@ use Rattle.std.specs.Float.{float_with_sign}
 use Rattle.terms.specs.declared.mode.Mode.{Mode}
 use Rattle.reals.specs.Numbers.{zero, one, two}
 use Rattle.reals.specs.Checked.{plus, minus, times, over, ◌then◌}
-use Rattle.loops.specs.Meaning.{manual}
+use Rattle.terms.specs.Modes.{manual}
 use Rattle.pid_fields.specs.declared.fields.Settings.{Settings}
 use Rattle.pid_fields.specs.declared.fields.Bounds.{Bounds}
 use Rattle.pid_fields.specs.declared.fields.Tuning.{Tuning}

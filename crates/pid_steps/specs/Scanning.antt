@@ -8,7 +8,7 @@ use Rattle.terms.specs.declared.refusal.Step.{Step}
 use Rattle.terms.specs.declared.refusal.Step.TheVariants as step
 use Rattle.block.specs.Bits.{stopped, with_trkf}
 use Rattle.block.specs.Checks.{passed, ◌next◌}
-use Rattle.loops.specs.Meaning.{manual}
+use Rattle.terms.specs.Modes.{manual}
 use Rattle.loops.specs.Inputs.{percent_checks, inputs_passed}
 use Rattle.pid_fields.specs.declared.fields.Past.{Past}
 use Rattle.pid_fields.specs.declared.fields.Fields.{Fields}
