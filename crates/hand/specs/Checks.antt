@@ -7,15 +7,16 @@ use Rattle.terms.specs.declared.mode.Mode.TheVariants.{Man}
 use Rattle.terms.specs.declared.place.Place.TheVariants as at
 use Rattle.terms.specs.declared.refusal.Cause.TheVariants.{OutOfRange, ModeNotCarried}
 use Rattle.block.specs.Key.{key_valid, mode_word}
-use Rattle.block.specs.Checks.{Check, sound, is_finite, is_in}
+use Rattle.block.specs.declared.checks.Check.{Check}
+use Rattle.block.specs.Checks.{check, sound, is_finite, is_in}
 use Rattle.hand.specs.declared.fields.Fields.{Fields}
 
 -- the mode key, MV finite, MODE the MAN bit and no other, MV in its range; nothing else of the block is looked at
 abbrev pub station_checks : Fields → ℕ → List Check
 station_checks f mode =
-    (key_valid f.key, OutOfRange at.ModeKey)
+    check (key_valid f.key) (OutOfRange at.ModeKey)
     ∷ is_finite at.Mv f.mv
-    ∷ ((mode == mode_word f.key Man), ModeNotCarried)
+    ∷ check (mode == mode_word f.key Man) ModeNotCarried
     ∷ is_in bottom top at.Mv f.mv
     ∷ []
 

@@ -1,9 +1,8 @@
 pub mod Checks
 pub mod Reading
-pub mod Blocks
 pub mod Starting
 pub mod Writing
 pub mod Scanning
-pub mod Kind
 pub mod Goodness
 pub mod Laws
+pub mod Trips

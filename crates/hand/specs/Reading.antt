@@ -2,10 +2,9 @@
 use Rattle.std.specs.Prelude.{ℕ, List, Ok, Result}
 use Rattle.terms.specs.declared.place.Place.TheVariants as at
 use Rattle.terms.specs.declared.refusal.Cause.{Cause}
-use Rattle.terms.specs.declared.refusal.Refusal.{Refusal}
 use Rattle.block.specs.declared.key.ModeKey.{ModeKey}
 use Rattle.block.specs.Words.{word_at, real_at}
-use Rattle.block.specs.Checks.{passed, length_checks, ◌next◌, at_top}
+use Rattle.block.specs.Checks.{passed, length_checks, ◌next◌}
 use Rattle.hand.specs.declared.fields.Fields.{Fields}
 use Rattle.hand.specs.Checks.{station_checks}
 
@@ -17,6 +16,3 @@ checked_of ws key =
     passed (length_checks ws)
     next λ _. passed (station_checks (fields_of ws key) (word_at ws at.Mode))
     next λ _. Ok (fields_of ws key)
-
-abbrev pub read_of : List ℕ → ModeKey → Result Fields Refusal
-read_of ws key = at_top (checked_of ws key)

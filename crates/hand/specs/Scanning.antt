@@ -46,7 +46,7 @@ abbrev pub entry_of : Fields → Entry → Result Fields Cause
 entry_of f (entry.Mode m) = mode_of f m
 entry_of f (entry.Setpoint v) = Err (NotAllowed at.Sv)
 entry_of f (entry.Output v) = follow_of f v
-entry_of f (entry.Limits mh ml dml) = Err (NotAllowed at.Mh)
+entry_of f (entry.Limits l) = Err (NotAllowed at.Mh)
 entry_of f entry.Stop = Ok (with_alm f (with_spa f.alm))
 entry_of f entry.Run = Ok (with_alm f (without_spa f.alm))
 

@@ -1,65 +1,78 @@
-// The hand station as a kind of loop.
-ghost use Rattle.std.specs.Prelude.{◌≡◌};
-ghost use Rattle.block.specs.Checks.{at_top, done};
-ghost use Rattle.loops.specs.Outcomes.{after, answer};
-ghost use Rattle.hand.specs.Scanning.{scan_of, follow_of, entry_of};
-ghost use Rattle.hand.specs.Kind.{as_fields_after, told as told_of, alarms as alarms_of, echo as echo_of, scanned as scanned_of, followed as followed_of, entered as entered_of};
+// The hand station as a kind of loop: it sends the output that an operator enters.
+ghost use Rattle.std.specs.Prelude.{true, refl};
+ghost use Rattle.hand.specs.Checks.{good};
+ghost use Rattle.hand.specs.Reading.{checked_of};
+ghost use Rattle.hand.specs.Starting.{started_fields};
+ghost use Rattle.hand.specs.Writing.{filled};
+ghost use Rattle.hand.specs.Scanning.{scan_of, follow_of, entry_of, told_of_fields};
 ghost use Rattle.hand.specs.Laws as laws;
+ghost use Rattle.hand.specs.Trips as trips;
 
-use crate::scanning::{enter_fields, follow_fields, scan_fields, tell_fields};
-use crate::states::Hand;
-use loops::kind::Loop;
-use loops::settling::settle;
+use crate::fields::Fields;
+use block::bits::{is_stopped, is_tracking, with_spa, without_spa};
+use block::key::ModeKey;
+use block::start::Start;
+use block::words::{put_real, put_word};
+use loops::inputs::{check_inputs, check_percent};
+use loops::kind::Kind;
+use reals::numbers::{BOTTOM, TOP, ZERO};
 use terms::entry::Entry;
-use terms::refusal::{Cause, Refusal};
+use terms::mode::Mode;
+use terms::place::Place;
+use terms::refusal::Cause;
 use terms::told::Told;
 
-// The station after a scan, or the cause by which it is refused.
-fn scanned(k: &Hand, m: f32, remote: Option<f32>) -> Result<Hand, Cause>
-    ensures is { result ≡ scanned_of k.now m remote }
-    ensures plainly { as_fields_after (scanned_of k.now m remote) ≡ scan_of k.now.fields m remote }
-{
-    match scan_fields(k.fields, m, remote) {
-        Ok(fields) => Ok(Hand { fields }),
-        Err(cause) => Err(cause),
-    }
-}
+/// The hand station. Its mode is always MAN, so it always holds; its S and its E2 are its MV brought into 0..100, so it keeps neither.
+pub enum Hand {}
 
-// The station after a follow, or the cause by which it is refused.
-fn followed(k: &Hand, p: f32) -> Result<Hand, Cause>
-    ensures is { result ≡ followed_of k.now p }
-    ensures plainly { as_fields_after (followed_of k.now p) ≡ follow_of k.now.fields p }
-{
-    match follow_fields(k.fields, p) {
-        Ok(fields) => Ok(Hand { fields }),
-        Err(cause) => Err(cause),
-    }
-}
+impl Kind for Hand {
+    type State = Fields;
 
-// The station after an entry, or the cause by which it is refused.
-fn entered(k: &Hand, entry: Entry) -> Result<Hand, Cause>
-    ensures is { result ≡ entered_of k.now entry }
-    ensures plainly { as_fields_after (entered_of k.now entry) ≡ entry_of k.now.fields entry }
-{
-    match enter_fields(k.fields, entry) {
-        Ok(fields) => Ok(Hand { fields }),
-        Err(cause) => Err(cause),
-    }
-}
+    type Settings = ModeKey;
 
-// The clause `plainly` says that a call comes to what its rule makes of the fields: the ranges that a station keeps refuse nothing more.
-impl Loop for Hand {
-    ghost told = { told_of };
+    ghost good = { good };
 
-    ghost alarms = { alarms_of };
+    ghost checked = { checked_of };
 
-    ghost echo = { echo_of };
+    ghost settings_of = { λ f. f.key };
 
-    ghost scanned = { scanned_of };
+    ghost started = { started_fields };
 
-    ghost followed = { followed_of };
+    ghost filled = { filled };
 
-    ghost entered = { entered_of };
+    ghost rewritten = { λ o ws. ws };
+
+    ghost restarted = { λ f ws. f };
+
+    ghost told = { told_of_fields };
+
+    ghost alarms = { λ f. f.alm };
+
+    ghost echo = { true };
+
+    ghost scanned = { scan_of };
+
+    ghost followed = { follow_of };
+
+    ghost entered = { entry_of };
+
+    ghost starts_good = { laws.starts_good };
+
+    ghost scans_good = { laws.scans_good };
+
+    ghost follows_good = { laws.follow_keeps };
+
+    ghost enters_good = { laws.enters_good };
+
+    ghost rewrites = { trips.rewrites };
+
+    ghost rereads = { trips.rereads };
+
+    ghost stays = { λ c ws. refl };
+
+    ghost restarts = { trips.restarts };
+
+    ghost warm_again = { λ f. refl };
 
     ghost ranges = { laws.ranges };
 
@@ -73,47 +86,74 @@ impl Loop for Hand {
 
     ghost enters = { laws.enters };
 
-    // What the station tells.
-    fn tell(&self) -> Told {
-        tell_fields(self.fields)
+    fn read(words: &[u16], key: ModeKey) -> Result<Fields, Cause> {
+        Fields::read(words, key)
     }
 
-    // What a scan would answer, with the station left as it is.
-    fn trial(&self, m: f32, remote: Option<f32>) -> Result<(f32, u16), Refusal> {
-        match scanned(self, m, remote) {
-            Ok(k) => Ok((k.fields.mv, k.fields.alm)),
-            Err(cause) => Err(Refusal { cause, level: 0 }),
+    fn settings(fields: Fields) -> ModeKey {
+        fields.key
+    }
+
+    fn start(fields: Fields, start: Start) -> Fields {
+        match start {
+            Start::Cold => fields.cold(),
+            Start::Warm => fields,
         }
     }
 
-    // A scan: it checks what it is handed, and then holds.
-    fn scan(&mut self, m: f32, remote: Option<f32>) -> Result<(f32, u16), Refusal>
-        ensures answers { result ≡ at_top (answer told_of alarms_of (scanned_of self.old m remote)) }
-        ensures leaves { self.new ≡ after self.old (scanned_of self.old m remote) }
-        ensures plainly { as_fields_after (scanned_of self.old m remote) ≡ scan_of self.old.fields m remote }
-    {
-        let outcome = scanned(self, m, remote);
-        settle(self, outcome)?;
-        Ok((self.fields.mv, self.fields.alm))
+    fn fill(words: &mut [u16], fields: Fields) {
+        put_word(words, Place::Mode, fields.key.word(Mode::Man));
+        put_word(words, Place::Alm, fields.alm);
+        put_word(words, Place::Inh, fields.inh);
+        put_real(words, Place::Mv, fields.mv);
     }
 
-    // A follow: a p in −10..110 becomes the output.
-    fn follow(&mut self, p: f32) -> Result<(), Refusal>
-        ensures answers { result ≡ at_top (done (followed_of self.old p)) }
-        ensures leaves { self.new ≡ after self.old (followed_of self.old p) }
-        ensures plainly { as_fields_after (followed_of self.old p) ≡ follow_of self.old.fields p }
-    {
-        let outcome = followed(self, p);
-        settle(self, outcome)
+    // In MAN, with the widest limits and a setpoint that goes with the output.
+    fn tell(fields: Fields) -> Told {
+        let s = fields.percent();
+        Told {
+            mode: Mode::Man,
+            stopped: is_stopped(fields.alm),
+            tracking: is_tracking(fields.inh),
+            mv: fields.mv,
+            ml: BOTTOM,
+            mh: TOP,
+            dml: ZERO,
+            e2: s,
+            s,
+        }
     }
 
-    // An entry: MAN, an output, stop and run are taken, and all else is refused.
-    fn enter(&mut self, entry: Entry) -> Result<(), Refusal>
-        ensures answers { result ≡ at_top (done (entered_of self.old entry)) }
-        ensures leaves { self.new ≡ after self.old (entered_of self.old entry) }
-        ensures plainly { as_fields_after (entered_of self.old entry) ≡ entry_of self.old.fields entry }
-    {
-        let outcome = entered(self, entry);
-        settle(self, outcome)
+    fn answer(fields: Fields) -> (f32, u16) {
+        (fields.mv, fields.alm)
+    }
+
+    // A scan checks what it is handed, and then holds.
+    fn scan(fields: Fields, m: f32, remote: Option<f32>) -> Result<Fields, Cause> {
+        check_inputs(m, remote)?;
+        Ok(fields.hold())
+    }
+
+    fn follow(fields: Fields, p: f32) -> Result<Fields, Cause> {
+        check_percent(Place::Mv, p)?;
+        Ok(fields.put(p))
+    }
+
+    // MAN, an output, stop and run are taken, and all else is refused.
+    fn enter(fields: Fields, entry: Entry) -> Result<Fields, Cause> {
+        match entry {
+            Entry::Mode(mode) => fields.enter_mode(mode),
+            Entry::Setpoint(_) => Err(Cause::NotAllowed(Place::Sv)),
+            Entry::Output(v) => Hand::follow(fields, v),
+            Entry::Limits(_) => Err(Cause::NotAllowed(Place::Mh)),
+            Entry::Stop => Ok(Fields {
+                alm: with_spa(fields.alm),
+                ..fields
+            }),
+            Entry::Run => Ok(Fields {
+                alm: without_spa(fields.alm),
+                ..fields
+            }),
+        }
     }
 }

@@ -1,12 +1,5 @@
-// The hand station: it sends the output that an operator enters. Read from a block, started, scanned, and written back.
+// The hand station: what it holds, and the kind of loop that it is.
 #![tactic(auto)]
 
 pub mod fields;
 pub mod kind;
-pub mod reading;
-pub mod round_trips;
-pub mod scanning;
-pub mod setpoint;
-pub mod starting;
-pub mod states;
-pub mod writing;

@@ -1,132 +1,125 @@
-// The PID loop as a kind of loop: tell, trial, scan, follow and enter.
-ghost use Rattle.std.specs.Prelude.{◌≡◌, false};
-ghost use Rattle.block.specs.Checks.{at_top, done};
-ghost use Rattle.loops.specs.Outcomes.{after, answer};
-ghost use Rattle.pid_steps.specs.Scanning.{scan_of, follow_of};
-ghost use Rattle.pid_steps.specs.Entering.{entry_of};
-ghost use Rattle.pid.specs.Kind.{state_of, as_state, with_aim, told_of, alarm_word, scanned_of, followed_of, entered_of};
-ghost use Rattle.pid.specs.Lifting as pid;
+// The PID loop as a kind of loop.
+ghost use Rattle.std.specs.Prelude.{false, refl};
+ghost use Rattle.pid_fields.specs.Writing.{filled};
+ghost use Rattle.pid_meaning.specs.Telling.{told_state};
+ghost use Rattle.pid.specs.RoundTrips.{same_block, restarted_state};
+ghost use Rattle.pid.specs.Kind.{good_state, checked_state, started_state, scanned_state, followed_state, entered_state};
+ghost use Rattle.pid.specs.Laws as laws;
 
-use crate::states::Pid;
-use loops::kind::Loop;
-use loops::settling::settle;
+use crate::starting::{aimed, cold};
+use block::start::Start;
+use loops::kind::Kind;
+use pid_fields::fields::{Fields, Settings};
 use pid_meaning::telling::tell_state;
 use pid_steps::entering::enter_fields;
 use pid_steps::scanning::{State, follow_fields, scan_fields};
 use terms::entry::Entry;
-use terms::refusal::{Cause, Refusal};
+use terms::refusal::Cause;
 use terms::told::Told;
 
-impl Pid {
-    // The plain state of the loop.
-    fn state(&self) -> State
-        ensures { result ≡ state_of self.now }
-    {
-        State {
-            fields: self.fields,
-            e2: self.e2,
-        }
-    }
-}
+/// The PID loop. Its state is the fields of its block, and E2: a remote value in cascade, and otherwise its own setpoint in percent.
+pub enum Pid {}
 
-// The loop after a scan.
-fn scanned(k: &Pid, m: f32, remote: Option<f32>) -> Result<Pid, Cause>
-    ensures outcome { result ≡ scanned_of k.now m remote }
-    ensures plainly { as_state result ≡ scan_of k.now.fields m remote }
-{
-    match scan_fields(k.fields, m, remote) {
-        Ok(state) => Ok(Pid {
-            fields: state.fields,
-            e2: state.e2,
-        }),
-        Err(cause) => Err(cause),
-    }
-}
+impl Kind for Pid {
+    type State = State;
 
-// The loop after a follow.
-fn followed(k: &Pid, p: f32) -> Result<Pid, Cause>
-    ensures outcome { result ≡ followed_of k.now p }
-    ensures plainly { as_state result ≡ with_aim k.now.e2 (follow_of k.now.fields p) }
-{
-    match follow_fields(k.fields, p) {
-        Ok(fields) => Ok(Pid { fields, e2: k.e2 }),
-        Err(cause) => Err(cause),
-    }
-}
+    type Settings = Settings;
 
-// The loop after an entry.
-fn entered(k: &Pid, entry: Entry) -> Result<Pid, Cause>
-    ensures outcome { result ≡ entered_of k.now entry }
-    ensures plainly { as_state result ≡ with_aim k.now.e2 (entry_of k.now.fields entry) }
-{
-    match enter_fields(k.fields, entry) {
-        Ok(fields) => Ok(Pid { fields, e2: k.e2 }),
-        Err(cause) => Err(cause),
-    }
-}
+    ghost good = { good_state };
 
-impl Loop for Pid {
-    ghost told = { told_of };
+    ghost checked = { checked_state };
 
-    ghost alarms = { alarm_word };
+    ghost settings_of = { λ s. s.fields.settings };
+
+    ghost started = { started_state };
+
+    ghost filled = { λ s. filled s.fields };
+
+    ghost rewritten = { same_block };
+
+    ghost restarted = { restarted_state };
+
+    ghost told = { told_state };
+
+    ghost alarms = { λ s. s.fields.alm };
 
     ghost echo = { false };
 
-    ghost scanned = { scanned_of };
+    ghost scanned = { scanned_state };
 
-    ghost followed = { followed_of };
+    ghost followed = { followed_state };
 
-    ghost entered = { entered_of };
+    ghost entered = { entered_state };
 
-    ghost ranges = { pid.ranges };
+    ghost starts_good = { laws.starts_good };
 
-    ghost echoes = { pid.echoes };
+    ghost scans_good = { laws.scans_good };
 
-    ghost follows = { pid.follows };
+    ghost follows_good = { laws.follows_good };
 
-    ghost declines = { λ k p h. pid.declines k p };
+    ghost enters_good = { laws.enters_good };
 
-    ghost scans = { pid.scans };
+    ghost rewrites = { laws.rewrites };
 
-    ghost enters = { pid.enters };
+    ghost rereads = { laws.rereads };
 
-    fn tell(&self) -> Told {
-        tell_state(self.state())
+    ghost stays = { λ c ws. refl };
+
+    ghost restarts = { laws.restarts };
+
+    ghost warm_again = { λ s. refl };
+
+    ghost ranges = { laws.ranges };
+
+    ghost echoes = { λ s t. tt };
+
+    ghost follows = { laws.follows };
+
+    ghost declines = { laws.declines };
+
+    ghost scans = { laws.scans };
+
+    ghost enters = { laws.enters };
+
+    fn read(words: &[u16], settings: Settings) -> Result<State, Cause> {
+        let fields = Fields::read(words, settings)?;
+        Ok(aimed(fields))
     }
 
-    fn trial(&self, m: f32, remote: Option<f32>) -> Result<(f32, u16), Refusal> {
-        match scanned(self, m, remote) {
-            Ok(k) => Ok((k.fields.mv, k.fields.alm)),
-            Err(cause) => Err(Refusal { cause, level: 0 }),
+    fn settings(state: State) -> Settings {
+        state.fields.settings
+    }
+
+    fn start(state: State, start: Start) -> State {
+        match start {
+            Start::Cold => aimed(cold(state.fields)),
+            Start::Warm => aimed(state.fields),
         }
     }
 
-    // What a scan comes to is what its formulas come to; so for follow and enter.
-    fn scan(&mut self, m: f32, remote: Option<f32>) -> Result<(f32, u16), Refusal>
-        ensures answers { result ≡ at_top (answer told_of alarm_word (scanned_of self.old m remote)) }
-        ensures leaves { self.new ≡ after self.old (scanned_of self.old m remote) }
-        ensures plainly { as_state (scanned_of self.old m remote) ≡ scan_of self.old.fields m remote }
-    {
-        let outcome = scanned(self, m, remote);
-        settle(self, outcome)?;
-        Ok((self.fields.mv, self.fields.alm))
+    fn fill(words: &mut [u16], state: State) {
+        state.fields.write(words);
     }
 
-    fn follow(&mut self, p: f32) -> Result<(), Refusal>
-        ensures answers { result ≡ at_top (done (followed_of self.old p)) }
-        ensures leaves { self.new ≡ after self.old (followed_of self.old p) }
-        ensures plainly { as_state (followed_of self.old p) ≡ with_aim self.old.e2 (follow_of self.old.fields p) }
-    {
-        let outcome = followed(self, p);
-        settle(self, outcome)
+    fn tell(state: State) -> Told {
+        tell_state(state)
     }
 
-    fn enter(&mut self, entry: Entry) -> Result<(), Refusal>
-        ensures answers { result ≡ at_top (done (entered_of self.old entry)) }
-        ensures leaves { self.new ≡ after self.old (entered_of self.old entry) }
-        ensures plainly { as_state (entered_of self.old entry) ≡ with_aim self.old.e2 (entry_of self.old.fields entry) }
-    {
-        let outcome = entered(self, entry);
-        settle(self, outcome)
+    fn answer(state: State) -> (f32, u16) {
+        (state.fields.mv, state.fields.alm)
+    }
+
+    fn scan(state: State, m: f32, remote: Option<f32>) -> Result<State, Cause> {
+        scan_fields(state.fields, m, remote)
+    }
+
+    fn follow(state: State, p: f32) -> Result<State, Cause> {
+        let fields = follow_fields(state.fields, p)?;
+        Ok(State { fields, ..state })
+    }
+
+    fn enter(state: State, entry: Entry) -> Result<State, Cause> {
+        let fields = enter_fields(state.fields, entry)?;
+        Ok(State { fields, ..state })
     }
 }

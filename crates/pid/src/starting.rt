@@ -1,13 +1,23 @@
-// Starting a block that was read: cold or warm.
+// Starting a loop that was read: cold or warm.
 ghost use Rattle.std.specs.Prelude.{◌≡◌};
-ghost use Rattle.pid.specs.Starting.{percent_of, cold_past, cold_fields, started_fields};
+ghost use Rattle.pid_steps.specs.Setpoint.{percent_of};
+ghost use Rattle.pid.specs.Starting.{aimed, cold_past, cold_fields};
 
-use crate::setpoint::percent_at;
-use crate::states::{Pid, PidBlock};
 use block::bits::with_trkf;
-use block::start::Start;
 use pid_fields::fields::{Fields, Past};
+use pid_steps::scanning::State;
+use pid_steps::setpoint::percent_at;
 use reals::numbers::ZERO;
+
+// The state of a loop that was not scanned yet: its E2 is S.
+pub(crate) fn aimed(f: Fields) -> State
+    ensures { result ≡ aimed f }
+{
+    State {
+        fields: f,
+        e2: percent_at(f.sv, f.bounds),
+    }
+}
 
 fn cold_past(past: Past) -> Past
     ensures { result ≡ cold_past past }
@@ -22,46 +32,14 @@ fn cold_past(past: Past) -> Past
     }
 }
 
-fn started_fields(start: Start, f: Fields) -> Fields
-    ensures { result ≡ started_fields start f }
+// The fields of a cold start.
+pub(crate) fn cold(f: Fields) -> Fields
+    ensures { result ≡ cold_fields f }
 {
-    match start {
-        Start::Cold => Fields {
-            inh: with_trkf(f.inh),
-            counter: 0,
-            past: cold_past(f.past),
-            ..f
-        },
-        Start::Warm => f,
-    }
-}
-
-// The loop of a block. Its E2 is S.
-fn started(block: PidBlock, start: Start) -> Pid
-    ensures fields { result.fields ≡ started_fields start block.fields }
-    ensures e2 { result.e2 ≡ percent_of block.fields }
-{
-    let f = block.fields;
-    Pid {
-        fields: started_fields(start, f),
-        e2: percent_at(f.sv, f.bounds),
-    }
-}
-
-impl PidBlock {
-    // Starts the loop with its past values at zero and TRKF set.
-    pub fn cold_start(self) -> Pid
-        ensures fields { result.fields ≡ cold_fields self.fields }
-        ensures e2 { result.e2 ≡ percent_of self.fields }
-    {
-        started(self, Start::Cold)
-    }
-
-    // Starts the loop as it was read.
-    pub fn warm_start(self) -> Pid
-        ensures fields { result.fields ≡ self.fields }
-        ensures e2 { result.e2 ≡ percent_of self.fields }
-    {
-        started(self, Start::Warm)
+    Fields {
+        inh: with_trkf(f.inh),
+        counter: 0,
+        past: cold_past(f.past),
+        ..f
     }
 }
