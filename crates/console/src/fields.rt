@@ -1,212 +1,120 @@
-// Prints the fields of a PID block.
+// Prints the fields of a PID block, and the words that changed.
+use block::bits::{is_stopped, is_tracking};
 use block::words::{real_at, word_at};
 use standard::standard_settings;
-use terms::mode::Mode;
+use std::{fmt, io};
 use terms::place::Place;
 
-// A field: its name, its place, and how it stands in the words.
-#[derive(Clone, Copy, Drop)]
-struct Row {
-    name: &'static str,
-    place: Place,
-    form: Form,
+// How a field stands in the words: in one word, or as a real in two words, low half first.
+#[derive(Clone, Copy, Debug)]
+enum Field {
+    Word(Place),
+    Real(Place),
 }
 
-// One word, or a real in two words, low half first.
-#[derive(Clone, Copy, Drop)]
-enum Form {
-    Word,
-    Real,
-}
-
-const ROWS: [Row; 24] = [
-    Row {
-        name: "MODE",
-        place: Place::Mode,
-        form: Form::Word,
-    },
-    Row {
-        name: "ALM",
-        place: Place::Alm,
-        form: Form::Word,
-    },
-    Row {
-        name: "INH",
-        place: Place::Inh,
-        form: Form::Word,
-    },
-    Row {
-        name: "MV",
-        place: Place::Mv,
-        form: Form::Real,
-    },
-    Row {
-        name: "SV",
-        place: Place::Sv,
-        form: Form::Real,
-    },
-    Row {
-        name: "DV",
-        place: Place::Dv,
-        form: Form::Real,
-    },
-    Row {
-        name: "MH",
-        place: Place::Mh,
-        form: Form::Real,
-    },
-    Row {
-        name: "ML",
-        place: Place::Ml,
-        form: Form::Real,
-    },
-    Row {
-        name: "RH",
-        place: Place::Rh,
-        form: Form::Real,
-    },
-    Row {
-        name: "RL",
-        place: Place::Rl,
-        form: Form::Real,
-    },
-    Row {
-        name: "CT",
-        place: Place::Ct,
-        form: Form::Real,
-    },
-    Row {
-        name: "DML",
-        place: Place::Dml,
-        form: Form::Real,
-    },
-    Row {
-        name: "P",
-        place: Place::P,
-        form: Form::Real,
-    },
-    Row {
-        name: "TI",
-        place: Place::Ti,
-        form: Form::Real,
-    },
-    Row {
-        name: "TD",
-        place: Place::Td,
-        form: Form::Real,
-    },
-    Row {
-        name: "GW",
-        place: Place::Gw,
-        form: Form::Real,
-    },
-    Row {
-        name: "GG",
-        place: Place::Gg,
-        form: Form::Real,
-    },
-    Row {
-        name: "MVP",
-        place: Place::Mvp,
-        form: Form::Real,
-    },
-    Row {
-        name: "counter",
-        place: Place::Counter,
-        form: Form::Word,
-    },
-    Row {
-        name: "B",
-        place: Place::B,
-        form: Form::Real,
-    },
-    Row {
-        name: "measured",
-        place: Place::Measured,
-        form: Form::Real,
-    },
-    Row {
-        name: "measured -1",
-        place: Place::Measured1,
-        form: Form::Real,
-    },
-    Row {
-        name: "measured -2",
-        place: Place::Measured2,
-        form: Form::Real,
-    },
-    Row {
-        name: "last DV",
-        place: Place::LastDv,
-        form: Form::Real,
-    },
+// The fields, each by its name.
+const FIELDS: [(&str, Field); 24] = [
+    ("MODE", Field::Word(Place::Mode)),
+    ("ALM", Field::Word(Place::Alm)),
+    ("INH", Field::Word(Place::Inh)),
+    ("MV", Field::Real(Place::Mv)),
+    ("SV", Field::Real(Place::Sv)),
+    ("DV", Field::Real(Place::Dv)),
+    ("MH", Field::Real(Place::Mh)),
+    ("ML", Field::Real(Place::Ml)),
+    ("RH", Field::Real(Place::Rh)),
+    ("RL", Field::Real(Place::Rl)),
+    ("CT", Field::Real(Place::Ct)),
+    ("DML", Field::Real(Place::Dml)),
+    ("P", Field::Real(Place::P)),
+    ("TI", Field::Real(Place::Ti)),
+    ("TD", Field::Real(Place::Td)),
+    ("GW", Field::Real(Place::Gw)),
+    ("GG", Field::Real(Place::Gg)),
+    ("MVP", Field::Real(Place::Mvp)),
+    ("counter", Field::Word(Place::Counter)),
+    ("B", Field::Real(Place::B)),
+    ("measured", Field::Real(Place::Measured)),
+    ("measured -1", Field::Real(Place::Measured1)),
+    ("measured -2", Field::Real(Place::Measured2)),
+    ("last DV", Field::Real(Place::LastDv)),
 ];
 
-// SPA, bit 14 of ALM: the loop is stopped.
-const SPA: u16 = 0x4000;
-
-// TRKF, bit 13 of INH.
-const TRKF: u16 = 0x2000;
-
-// What a word says.
-fn meaning(place: Place, word: u16) -> &'static str {
-    match place {
-        Place::Mode => match standard_settings().key.mode(word) {
-            Some(Mode::Man) => "MAN",
-            Some(Mode::Aut) => "AUT",
-            Some(Mode::Cas) => "CAS",
-            None => "no mode",
-        },
-        Place::Alm if word & SPA != 0 => "stopped",
-        Place::Inh if word & TRKF != 0 => "TRKF set",
-        _ => "",
-    }
+// A word of a field, displayed as what it says.
+#[derive(Clone, Copy, Debug)]
+struct Meaning {
+    place: Place,
+    word: u16,
 }
 
-fn show_word(rt: &HostRuntime, row: Row, before: &[u16], after: &[u16]) -> anyhow::Result<()> {
-    let name = row.name;
-    let offset = row.place.number();
-    let old = word_at(before, row.place);
-    let new = word_at(after, row.place);
-    let says = meaning(row.place, new);
-    println!(rt; "{offset:>6}  {name:<11}  {old:04X}       {new:04X}       {says}")?;
-    Ok(())
+impl fmt::Display for Meaning {
+    fn fmt<W: fmt::Write>(&self, f: &mut fmt::Formatter<W>) -> fmt::Result {
+        match self.place {
+            Place::Mode => match standard_settings().key.mode(self.word) {
+                Some(mode) => write!(f, "{mode}"),
+                None => write!(f, "no mode"),
+            },
+            Place::Alm if is_stopped(self.word) => write!(f, "stopped"),
+            Place::Inh if is_tracking(self.word) => write!(f, "TRKF set"),
+            _ => Ok(()),
+        }
+    }
 }
 
 // The two words of a real, low half first.
 fn halves(words: &[u16], place: Place) -> (u16, u16) {
-    let at = usize::from(place.number());
-    if at + 1 < words.len() {
-        (words[at], words[at + 1])
-    } else {
-        (0, 0)
+    let offset = usize::from(place.number());
+    match words.get(offset..offset + 2) {
+        Some([low, high]) => (*low, *high),
+        _ => (0, 0),
     }
 }
 
-fn show_real(rt: &HostRuntime, row: Row, before: &[u16], after: &[u16]) -> anyhow::Result<()> {
-    let name = row.name;
-    let offset = row.place.number();
-    let (low, high) = halves(before, row.place);
-    let (new_low, new_high) = halves(after, row.place);
-    let x = real_at(after, row.place);
-    println!(rt;
-        "{offset:>6}  {name:<11}  {low:04X} {high:04X}  {new_low:04X} {new_high:04X}  {x}"
-    )?;
-    Ok(())
+// The words of a block before a call and after it.
+#[derive(Clone, Copy, Debug)]
+pub(crate) struct Change<'a> {
+    pub before: &'a [u16],
+    pub after: &'a [u16],
 }
 
-fn show_row(rt: &HostRuntime, row: Row, before: &[u16], after: &[u16]) -> anyhow::Result<()> {
-    match row.form {
-        Form::Word => show_word(rt, row, before, after),
-        Form::Real => show_real(rt, row, before, after),
+impl Change<'_> {
+    fn show_word(self, rt: &impl Print, name: &str, place: Place) -> io::Result<()> {
+        let offset = place.number();
+        let old = word_at(self.before, place);
+        let word = word_at(self.after, place);
+        let says = Meaning { place, word };
+        println!(rt; "{offset:>6}  {name:<11}  {old:04X}       {word:04X}       {says}")
     }
-}
 
-// Prints each field by name and offset, with its words before and after and what they say after.
-pub(crate) fn show_fields(rt: &HostRuntime, before: &[u16], after: &[u16]) -> anyhow::Result<()> {
-    println!(rt; "offset  field        before     after      says")?;
-    for row in &ROWS {
-        show_row(rt, *row, before, after)?;
+    fn show_real(self, rt: &impl Print, name: &str, place: Place) -> io::Result<()> {
+        let offset = place.number();
+        let (old_low, old_high) = halves(self.before, place);
+        let (low, high) = halves(self.after, place);
+        let x = real_at(self.after, place);
+        println!(rt;
+            "{offset:>6}  {name:<11}  {old_low:04X} {old_high:04X}  {low:04X} {high:04X}  {x}"
+        )
     }
-    Ok(())
+
+    // Prints each field by offset and name, with its words before and after and what they say after.
+    pub(crate) fn show_fields(self, rt: &impl Print) -> io::Result<()> {
+        println!(rt; "offset  field        before     after      says")?;
+        for (name, field) in &FIELDS {
+            match field {
+                Field::Word(place) => self.show_word(rt, name, *place)?,
+                Field::Real(place) => self.show_real(rt, name, *place)?,
+            }
+        }
+        Ok(())
+    }
+
+    // Prints each word that changed, by its offset.
+    pub(crate) fn show_words(self, rt: &impl Print) -> io::Result<()> {
+        for (offset, (old, new)) in self.before.iter().zip(self.after).enumerate() {
+            if old != new {
+                println!(rt; "{offset:>6}  {old:04X} -> {new:04X}")?;
+            }
+        }
+        Ok(())
+    }
 }

@@ -4,99 +4,88 @@
 mod fields;
 mod stations;
 
-use fields::show_fields;
-use pid::reading::read;
-use pid::round_trips::write_back;
+use block::words::put_real;
+use fields::Change;
+use loops::kind::Kind;
+use loops::reading::Block;
+use loops::running::Loop;
+use loops::writing::write_back;
+use pid::kind::Pid;
 use standard::{standard_settings, standard_words};
 use stations::show_station;
+use std::io;
+use terms::place::Place;
 use terms::refusal::Refusal;
 
-// CT is a real at offset 46: its high half is the next word.
-const CT_HIGH: usize = 47;
-
-// The high half of the real 32768.
-const TOO_LONG: u16 = 0x4700;
-
-// The last deviation stands at offset 110.
-const LAST_DV_HIGH: usize = 111;
-
-// The high half of the real 2.5.
-const TWO_AND_A_HALF: u16 = 0x4020;
-
 // Prints what a call answered: what was done, or the refusal.
-pub(crate) fn tell(
-    rt: &HostRuntime,
-    done: &str,
-    answer: Result<(), Refusal>,
-) -> anyhow::Result<()> {
+pub(crate) fn tell(rt: &impl Print, done: &str, answer: Result<(), Refusal>) -> io::Result<()> {
     match answer {
-        Ok(()) => println!(rt; "ok, {done}")?,
-        Err(refusal) => println!(rt; "{refusal}")?,
+        Ok(()) => println!(rt; "ok, {done}"),
+        Err(refusal) => println!(rt; "{refusal}"),
     }
-    Ok(())
 }
 
 // Reads the words, starts them cold and writes them back.
 fn start_cold(words: &mut [u16]) -> Result<(), Refusal> {
-    let pid = read(words, standard_settings())?.cold_start();
-    pid.write(words)
+    Block::<Pid>::read(words, standard_settings())?
+        .cold_start()
+        .write(words)
 }
 
-fn show_cold_start(rt: &HostRuntime, found: &[u16; 128]) -> anyhow::Result<()> {
+fn show_cold_start(rt: &impl Print, found: &[u16; 128]) -> io::Result<()> {
     println!(rt; "A standard PID block, read, started cold and written back:")?;
     let mut words = *found;
     let answer = start_cold(&mut words);
     tell(rt, "the fields before and after:", answer)?;
-    show_fields(rt, found, &words)
-}
-
-fn show_changes(rt: &HostRuntime, before: &[u16; 128], after: &[u16; 128]) -> anyhow::Result<()> {
-    for offset in 0..128 {
-        let old = before[offset];
-        let new = after[offset];
-        if old != new {
-            println!(rt; "{offset:>6}  {old:04X} -> {new:04X}")?;
-        }
-    }
-    Ok(())
+    let change = Change {
+        before: found,
+        after: &words,
+    };
+    change.show_fields(rt)
 }
 
 // Starts the block warm and writes it over itself: the same block, with DV made a copy of the last deviation.
-fn show_same_block(rt: &HostRuntime, found: &[u16; 128]) -> anyhow::Result<()> {
+fn show_same_block(rt: &impl Print, found: &[u16; 128]) -> io::Result<()> {
     println!(rt;
         "\nThe block with a last deviation of 2.5, started warm and written over itself:"
     )?;
-    let mut words = *found;
-    words[LAST_DV_HIGH] = TWO_AND_A_HALF;
-    let before = words;
-    let answer = write_back(&mut words, standard_settings());
+    let mut before = *found;
+    put_real(&mut before, Place::LastDv, 2.5);
+    let mut words = before;
+    let answer = write_back::<Pid>(&mut words, standard_settings());
     tell(rt, "the words that changed:", answer)?;
-    show_changes(rt, &before, &words)
+    let change = Change {
+        before: &before,
+        after: &words,
+    };
+    change.show_words(rt)
 }
 
-// A loop that is written into words of all ones, read with its own settings and started warm.
-fn start_again(found: &[u16]) -> Result<(), Refusal> {
-    let mut pid = read(found, standard_settings())?.cold_start();
-    let mut words = [0xffff; 128];
-    pid.restart(&mut words)
+// Writes a loop into words of all ones, reads them with its own settings and starts them warm.
+pub(crate) fn start_again<K: Kind>(mut started: Loop<K>) -> Result<(), Refusal> {
+    started.restart(&mut [0xffff; 128])
 }
 
-fn show_refusals(rt: &HostRuntime, found: &[u16; 128]) -> anyhow::Result<()> {
-    let mut words = *found;
-    words[CT_HIGH] = TOO_LONG;
+fn show_same_loop(rt: &impl Print, found: &[u16]) -> anyhow::Result<()> {
+    println!(rt; "\nA loop written into words of all ones, and started warm from them:")?;
+    let pid = Block::<Pid>::read(found, standard_settings())?.cold_start();
+    tell(rt, "it is the same loop", start_again(pid))?;
+    Ok(())
+}
+
+fn show_refusals(rt: &impl Print, found: &[u16; 128]) -> io::Result<()> {
     println!(rt; "\nA copy with CT 32768, and 127 words of it:")?;
-    let whole = start_cold(&mut words);
-    tell(rt, "started", whole)?;
-    let short = start_cold(&mut words[0..127]);
-    tell(rt, "started", short)
+    let mut words = *found;
+    put_real(&mut words, Place::Ct, 32768.0);
+    tell(rt, "started", start_cold(&mut words))?;
+    tell(rt, "started", start_cold(&mut words[0..127]))
 }
 
-fn run(rt: &HostRuntime) -> anyhow::Result<()> {
+fn run(rt: &impl Print) -> anyhow::Result<()> {
     let found = standard_words();
     show_cold_start(rt, &found)?;
     show_same_block(rt, &found)?;
-    println!(rt; "\nA loop written into words of all ones, and started warm from them:")?;
-    tell(rt, "it is the same loop", start_again(&found))?;
+    show_same_loop(rt, &found)?;
     show_refusals(rt, &found)?;
     show_station(rt, &found)
 }

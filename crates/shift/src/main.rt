@@ -1,172 +1,109 @@
 // A short shift at one PID loop: entries and scans, each printed with its answer.
 #![tactic(auto)]
 
-use loops::kind::Loop;
-use pid::reading::read;
-use pid::states::Pid;
+use loops::reading::Block;
+use loops::running::Loop;
+use pid::kind::Pid;
 use standard::{standard_settings, standard_words};
-use terms::entry::Entry;
+use std::{fmt, io};
+use terms::entry::{Entry, Limits};
 use terms::mode::Mode;
 use terms::refusal::Refusal;
 
-// What is done to the loop: an entry, or a scan of a measured value with no remote value or one.
-#[derive(Clone, Copy, Drop)]
+// What is done to the loop: an entry, or a scan of a measured value and perhaps a remote value.
+#[derive(Clone, Copy, Debug)]
 enum Act {
     Enter(Entry),
-    Scan(f32),
-    Cascade(f32, f32),
+    Scan(f32, Option<f32>),
 }
 
-// An act, and how it is printed.
-#[derive(Clone, Copy, Drop)]
-struct Line {
-    says: &'static str,
-    act: Act,
+impl Act {
+    // Does the act; a scan answers MV and ALM.
+    fn perform(self, pid: &mut Loop<Pid>) -> Result<Option<(f32, u16)>, Refusal> {
+        match self {
+            Act::Enter(entry) => {
+                pid.enter(entry)?;
+                Ok(None)
+            }
+            Act::Scan(m, remote) => Ok(Some(pid.scan(m, remote)?)),
+        }
+    }
 }
 
-const SHIFT: [Line; 20] = [
-    Line {
-        says: "scan 50",
-        act: Act::Scan(50.0),
-    },
-    Line {
-        says: "run",
-        act: Act::Enter(Entry::Run),
-    },
-    Line {
-        says: "mode AUT",
-        act: Act::Enter(Entry::Mode(Mode::Aut)),
-    },
-    Line {
-        says: "setpoint 60",
-        act: Act::Enter(Entry::Setpoint(60.0)),
-    },
-    Line {
-        says: "scan 50",
-        act: Act::Scan(50.0),
-    },
-    Line {
-        says: "scan 50",
-        act: Act::Scan(50.0),
-    },
-    Line {
-        says: "scan 45",
-        act: Act::Scan(45.0),
-    },
-    Line {
-        says: "limits MH 8, ML 0, DML 2",
-        act: Act::Enter(Entry::Limits(8.0, 0.0, 2.0)),
-    },
-    Line {
-        says: "scan 40",
-        act: Act::Scan(40.0),
-    },
-    Line {
-        says: "scan 40",
-        act: Act::Scan(40.0),
-    },
-    Line {
-        says: "output 20",
-        act: Act::Enter(Entry::Output(20.0)),
-    },
-    Line {
-        says: "mode CAS",
-        act: Act::Enter(Entry::Mode(Mode::Cas)),
-    },
-    Line {
-        says: "scan 40, remote value 30",
-        act: Act::Cascade(40.0, 30.0),
-    },
-    Line {
-        says: "setpoint 70",
-        act: Act::Enter(Entry::Setpoint(70.0)),
-    },
-    Line {
-        says: "stop",
-        act: Act::Enter(Entry::Stop),
-    },
-    Line {
-        says: "scan 40",
-        act: Act::Scan(40.0),
-    },
-    Line {
-        says: "output 20",
-        act: Act::Enter(Entry::Output(20.0)),
-    },
-    Line {
-        says: "scan 120",
-        act: Act::Scan(120.0),
-    },
-    Line {
-        says: "limits MH 0, ML 8, DML 2",
-        act: Act::Enter(Entry::Limits(0.0, 8.0, 2.0)),
-    },
-    Line {
-        says: "scan 40",
-        act: Act::Scan(40.0),
-    },
+impl fmt::Display for Act {
+    fn fmt<W: fmt::Write>(&self, f: &mut fmt::Formatter<W>) -> fmt::Result {
+        match self {
+            Act::Enter(entry) => write!(f, "{entry}"),
+            Act::Scan(m, None) => write!(f, "scan {m}"),
+            Act::Scan(m, Some(remote)) => write!(f, "scan {m}, remote value {remote}"),
+        }
+    }
+}
+
+// Limits that the output soon meets.
+const NARROW: Limits = Limits {
+    mh: 8.0,
+    ml: 0.0,
+    dml: 2.0,
+};
+
+// Limits with ML above MH.
+const CROSSED: Limits = Limits {
+    mh: 0.0,
+    ml: 8.0,
+    dml: 2.0,
+};
+
+const SHIFT: [Act; 20] = [
+    Act::Scan(50.0, None),
+    Act::Enter(Entry::Run),
+    Act::Enter(Entry::Mode(Mode::Aut)),
+    Act::Enter(Entry::Setpoint(60.0)),
+    Act::Scan(50.0, None),
+    Act::Scan(50.0, None),
+    Act::Scan(45.0, None),
+    Act::Enter(Entry::Limits(NARROW)),
+    Act::Scan(40.0, None),
+    Act::Scan(40.0, None),
+    Act::Enter(Entry::Output(20.0)),
+    Act::Enter(Entry::Mode(Mode::Cas)),
+    Act::Scan(40.0, Some(30.0)),
+    Act::Enter(Entry::Setpoint(70.0)),
+    Act::Enter(Entry::Stop),
+    Act::Scan(40.0, None),
+    Act::Enter(Entry::Output(20.0)),
+    Act::Scan(120.0, None),
+    Act::Enter(Entry::Limits(CROSSED)),
+    Act::Scan(40.0, None),
 ];
 
-fn show_entry(rt: &HostRuntime, says: &str, answer: Result<(), Refusal>) -> anyhow::Result<()> {
-    match answer {
-        Ok(()) => println!(rt; "{says:<26}ok")?,
-        Err(refusal) => println!(rt; "{says:<26}{refusal}")?,
-    }
-    Ok(())
-}
-
-fn show_scan(
-    rt: &HostRuntime,
-    says: &str,
-    answer: Result<(f32, u16), Refusal>,
-) -> anyhow::Result<()> {
-    match answer {
-        Ok((mv, alm)) => println!(rt; "{says:<26}ok, MV {mv}, ALM {alm:04X}")?,
-        Err(refusal) => println!(rt; "{says:<26}{refusal}")?,
-    }
-    Ok(())
-}
-
-fn show_act(rt: &HostRuntime, pid: &mut Pid, line: Line) -> anyhow::Result<()> {
-    match line.act {
-        Act::Enter(entry) => show_entry(rt, line.says, pid.enter(entry)),
-        Act::Scan(m) => show_scan(rt, line.says, pid.scan(m, None)),
-        Act::Cascade(m, remote) => show_scan(rt, line.says, pid.scan(m, Some(remote))),
+// Does an act, and prints it with its answer. A width pads text only, so the act is made text first.
+fn show_act(rt: &(impl Print + Alloc), pid: &mut Loop<Pid>, act: Act) -> io::Result<()> {
+    let says = format!(in rt.alloc(); "{act}")?;
+    match act.perform(pid) {
+        Ok(None) => println!(rt; "{says:<26}ok"),
+        Ok(Some((mv, alm))) => println!(rt; "{says:<26}ok, MV {mv}, ALM {alm:04X}"),
+        Err(refusal) => println!(rt; "{says:<26}{refusal}"),
     }
 }
 
-fn mode_name(mode: Mode) -> &'static str {
-    match mode {
-        Mode::Man => "MAN",
-        Mode::Aut => "AUT",
-        Mode::Cas => "CAS",
-    }
-}
-
-fn show_told(rt: &HostRuntime, pid: &Pid) -> anyhow::Result<()> {
+fn show_told(rt: &impl Print, pid: &Loop<Pid>) -> io::Result<()> {
     let told = pid.tell();
-    let mode = mode_name(told.mode);
-    let mv = told.mv;
-    let s = told.s;
-    let e2 = told.e2;
-    println!(rt; "it tells: {mode}, MV {mv}, S {s}, E2 {e2}")?;
-    Ok(())
+    println!(rt;
+        "it tells: {}, MV {}, S {}, E2 {}",
+        told.mode, told.mv, told.s, told.e2
+    )
 }
 
 // Starts a standard block cold and works through the shift.
-fn show_shift(rt: &HostRuntime) -> anyhow::Result<()> {
+fn show_shift(rt: &(impl Print + Alloc)) -> anyhow::Result<()> {
     println!(rt; "A shift at the loop of a standard block:")?;
-    let mut pid = match read(&standard_words(), standard_settings()) {
-        Ok(block) => block.cold_start(),
-        Err(refusal) => {
-            println!(rt; "{refusal}")?;
-            return Ok(());
-        }
-    };
-    for line in &SHIFT {
-        show_act(rt, &mut pid, *line)?;
+    let mut pid = Block::<Pid>::read(&standard_words(), standard_settings())?.cold_start();
+    for act in SHIFT {
+        show_act(rt, &mut pid, act)?;
     }
-    show_told(rt, &pid)
+    show_told(rt, &pid)?;
+    Ok(())
 }
 
 fn main(rt: HostRuntime) -> anyhow::Result<()> {

@@ -44,7 +44,7 @@ const SETTINGS: Settings = Settings {
     pn: 0,
 };
 
-// The words of a standard block.
+/// The words of a standard block.
 pub fn standard_words() -> [u16; 128]
     ensures { result ≡ words_of }
 {
@@ -53,7 +53,7 @@ pub fn standard_words() -> [u16; 128]
     words
 }
 
-// The settings beside a standard block.
+/// The settings beside a standard block.
 pub fn standard_settings() -> Settings
     ensures { result ≡ settings_of }
 {
