@@ -14,13 +14,13 @@ use Rattle.reals.specs.Reals.{Within, Same}
 use Rattle.std.proofs.lemmas.Bool.{cond_both, or_right}
 use Rattle.reals.proofs.OrderLaws.{percent_in as brought_percent}
 use Rattle.reals.proofs.Chains.{brought_by}
-use Rattle.block.specs.Checks.{passed, tests}
+use Rattle.block.specs.Checks.{tests}
 use Rattle.block.specs.Bits.{stopped, with_trkf, alarms_off}
-use Rattle.block.proofs.Passing.{spread, gather, range, in_range, OnOk, next_on, next_any, ok_by, if_ok}
+use Rattle.block.proofs.Passing.{spread, gather, range, in_range, OnOk, next_any, ok_by}
 use Rattle.block.proofs.Masks.{stop_set, stop_cleared, stop_off, track_set}
-use Rattle.loops.specs.Inputs.{percent_checks, inputs_passed, no_percent, RemoteHeld, EntryHeld}
+use Rattle.loops.specs.Inputs.{inputs_passed, no_percent, RemoteHeld, EntryHeld}
 use Rattle.loops.specs.Meaning.{Ranges, SameLimits, Echoes, Followed, Scanned, OutputKept, Entered}
-use Rattle.loops.proofs.Given.{self, finite_percent, admitted, admits, declined}
+use Rattle.loops.proofs.Given.{taken_on, self, finite_percent, admits, declined}
 use Rattle.hand.specs.declared.fields.Fields.{Fields}
 use Rattle.hand.specs.Checks.{station_checks, good}
 use Rattle.block.specs.declared.start.Start.{Start}
@@ -75,7 +75,7 @@ looked_at entry.Run h = tt
 
 -- what holds of an output that is taken holds of what an accepted follow comes to
 follow_on : (P : Fields → Type 0) (f : Fields) (p : Float) → (Within p bottom top → P (put_fields f p)) → OnOk P (follow_of f p)
-follow_on P f p k = next_on (λ _. Within p bottom top) P (passed (percent_checks at.Mv p)) _ (if_ok _ (λ _ e. admitted at.Mv p e)) (λ _ w. k w)
+follow_on P f p k = taken_on P (put_fields f p) p k
 
 pub starts_good : (how : Start) (f : Fields) → T (good f) → T (good (started_fields how f))
 starts_good Cold f t = other_words f f.alm (with_trkf f.inh) t
@@ -145,6 +145,9 @@ put_follows f p w =
 
 pub follows : (f : Fields) (p : Float) → T (good f) → T (fits binary32 p) → Within p bottom top → (g : Fields) × (follow_of f p ≡ Ok g) × Followed true p (told_of_fields f) (told_of_fields g)
 follows f p t h w = (put_fields f p, rw (admits at.Mv p w) refl, put_follows f p w)
+
+pub follow_means : (f g : Fields) (p : Float) → T (good f) → follow_of f p ≡ Ok g → Followed true p (told_of_fields f) (told_of_fields g)
+follow_means f g p t e = let P : Fields → Type 0 = λ z. Followed true p (told_of_fields f) (told_of_fields z) in ok_by P (follow_of f p) g (follow_on P f p (put_follows f p)) e
 
 pub declines : (f : Fields) (p : Float) → (Within p bottom top → ⊥) → follow_of f p ≡ Err (no_percent p)
 declines f p out = rw (declined p out) refl

@@ -80,6 +80,8 @@ impl Kind for Hand {
 
     ghost follows = { laws.follows };
 
+    ghost follow_means = { laws.follow_means };
+
     ghost declines = { laws.declines };
 
     ghost scans = { laws.scans };

@@ -2,9 +2,8 @@
 use Rattle.std.proofs.Common.{◌≡◌, false, T, Some, None, Ok, Err, Option, Result, refl, inl, inr}
 use lib.Dec.{not_T}
 use lib.Ieee.{Float, of_bits}
-use lib.Ieee.Bits.{is_true, is_false}
-use Rattle.std.specs.Bool.{passes}
-use Rattle.std.proofs.lemmas.Bool.{cases_Bool, both_ways}
+use lib.Ieee.Bits.{is_false}
+use Rattle.std.proofs.lemmas.Bool.{cases_Bool}
 use Rattle.std.specs.Float.{float_is_finite}
 use Rattle.std.specs.Float.Order.{le_right}
 use Rattle.terms.specs.declared.place.Place.{Place}
@@ -12,8 +11,8 @@ use Rattle.terms.specs.declared.place.Place.TheVariants as at
 use Rattle.reals.specs.Numbers.{bottom, top}
 use Rattle.reals.specs.Reals.{inside, Within, Same}
 use Rattle.reals.proofs.OrderLaws.{eq_refl, finite_between}
-use Rattle.block.specs.Checks.{passed, tests}
-use Rattle.block.proofs.Passing.{spread, gather, range, in_range, passed_sound, sound_passed, next_ok, if_ok, OnOk}
+use Rattle.block.specs.Checks.{passed, tests, ◌next◌}
+use Rattle.block.proofs.Passing.{spread, gather, range, in_range, passed_sound, sound_passed, next_ok, next_on, if_ok, OnOk}
 use Rattle.loops.specs.Inputs.{percent_checks, inputs_passed, no_percent}
 use Rattle.loops.specs.Outcomes.{seen}
 
@@ -50,9 +49,9 @@ inputs m (Some r) e = let a = next_ok (passed (percent_checks at.Remote r)) (λ 
 pub inputs_on : (m : Float) (r : Option Float) → OnOk (λ _. Within m bottom top × RemoteIn r) (inputs_passed m r)
 inputs_on m r = if_ok (inputs_passed m r) (λ _ e. inputs m r e)
 
--- a percentage lies in −10..110 or it does not
-pub either_way : (A : Type 0) (p : Float) → (Within p bottom top → A) → ((Within p bottom top → ⊥) → A) → A
-either_way A p yes_in out = elim (cases_Bool (inside bottom top p)) [ inl e ↦ yes_in (range bottom top p (passes _ e)) | inr e ↦ out (λ w. both_ways _ e (is_true _ (in_range bottom top p w))) ]
+-- what holds of an output that is taken holds of what an accepted follow comes to
+pub taken_on : {S : Type 0} (P : S → Type 0) (put : S) (p : Float) → (Within p bottom top → P put) → OnOk P (passed (percent_checks at.Mv p) next λ _. Ok put)
+taken_on P put p k = next_on (λ _. Within p bottom top) P (passed (percent_checks at.Mv p)) (λ _. Ok put) (if_ok _ (λ _ e. admitted at.Mv p e)) (λ _ w. k w)
 
 -- ---- outcomes
 

@@ -134,6 +134,9 @@ pub trait Kind {
     // A follow of a p in −10..110 is taken.
     ghost follows: { (s : Self.State) (p : Float) → T (good s) → T (fits binary32 p) → Within p bottom top → (t : Self.State) × (followed s p ≡ Ok t) × Followed echo p (told s) (told t) };
 
+    // What an accepted follow does.
+    ghost follow_means: { (s t : Self.State) (p : Float) → T (good s) → followed s p ≡ Ok t → Followed echo p (told s) (told t) };
+
     // Any other p is refused: not finite, or out of range, at MV.
     ghost declines: { (s : Self.State) (p : Float) → (Within p bottom top → ⊥) → followed s p ≡ Err (no_percent p) };
 

@@ -16,7 +16,7 @@ use Rattle.block.proofs.Passing.{OnOk, ok_by, both, split, if_ok}
 use Rattle.loops.specs.Outcomes.{seen, where_whole}
 use Rattle.loops.specs.Inputs.{no_percent, RemoteHeld, EntryHeld}
 use Rattle.loops.specs.Meaning.{Ranges, Followed, Scanned, Entered}
-use Rattle.loops.proofs.Given.{admits, declined, seen_ok}
+use Rattle.loops.proofs.Given.{taken_on, admits, declined, seen_ok}
 use Rattle.pid_fields.specs.declared.fields.Settings.{Settings}
 use Rattle.pid_fields.specs.declared.fields.Fields.{Fields}
 use Rattle.pid_fields.specs.Checks.{good, good_e2}
@@ -145,6 +145,11 @@ ranges s t =
 
 pub follows : (s : State) (p : Float) → T (good_state s) → T (fits binary32 p) → Within p bottom top → (t : State) × (followed_state s p ≡ Ok t) × Followed false p (told_state s) (told_state t)
 follows s p g h w = (with_fields s (put_output s.fields p), rw (admits at.Mv p w) refl, put_law s (fields_good s g) (sound s g).aim p w)
+
+pub follow_means : (s t : State) (p : Float) → T (good_state s) → followed_state s p ≡ Ok t → Followed false p (told_state s) (told_state t)
+follow_means s t p g e =
+    let P : State → Type 0 = λ z. Followed false p (told_state s) (told_state z) in
+    with_law P s t (follow_of s.fields p) (taken_on (λ f. P (with_fields s f)) (put_output s.fields p) p (put_law s (fields_good s g) (sound s g).aim p)) e
 
 pub declines : (s : State) (p : Float) → (Within p bottom top → ⊥) → followed_state s p ≡ Err (no_percent p)
 declines s p out = rw (declined p out) refl

@@ -75,6 +75,8 @@ impl Kind for Pid {
 
     ghost follows = { laws.follows };
 
+    ghost follow_means = { laws.follow_means };
+
     ghost declines = { laws.declines };
 
     ghost scans = { laws.scans };

@@ -1,11 +1,9 @@
-use Rattle.std.proofs.Common.{◌≡◌, T, Err, ap, subst, ◌∙◌, rules}
+use Rattle.std.proofs.Common.{◌≡◌, T, Err, sym, ap, ◌∙◌, rules}
 use Rattle.std.proofs.lemmas.Result.{err_from_is_err_and}
 use lib.Ieee.{fits, binary32}
 use Rattle.terms.specs.declared.refusal.Refusal.{Refusal}
 use Rattle.terms.specs.Refusals.{refused}
 use Rattle.loops.specs.Inputs.{no_percent}
-use Rattle.loops.specs.Meaning.{Followed}
-use Rattle.loops.proofs.Given.{either_way}
 use Rattle.loops.proofs.running.Loop.follow.Goals as goal
 
 pub returns-in_err-self-clause-takes : goal.returns-in_err-self-clause-takes
@@ -23,10 +21,4 @@ returns-in_err-self-clause-declines g c out =
 pub returns-clause-means : goal.returns-clause-means
 returns-clause-means g c =
     let k = c.args.self.now in
-    let h : T (fits binary32 c.args.p) = search rules in
-    either_way _ c.args.p
-    (λ w.
-    let taken = g.met.K.Kind.follows k.state c.args.p k.ok h w in
-    let e : taken.0 ≡ c.in_ok-self.field-0 = cc (taken.1, c.in_ok-self.ensures) in
-    subst (λ s. Followed g.K.Kind.echo c.args.p (g.K.Kind.told k.state) (g.K.Kind.told s)) e taken.2)
-    (λ out. cc (c.in_ok-self.ensures, g.met.K.Kind.declines k.state c.args.p out))
+    g.met.K.Kind.follow_means k.state c.in_ok-self.field-0 c.args.p k.ok (sym c.in_ok-self.ensures)
