@@ -66,7 +66,7 @@ pub trait Kind {
         ensures outcome { result ≡ checked words.now settings }
         ensures is_good { IfOk result (λ s. T (good s)) };
 
-    /// The settings that a loop of this state was read with.
+    /// The settings that stand in a state.
     fn settings(state: Self::State) -> Self::Settings
         ensures { result ≡ settings_of state };
 

@@ -11,7 +11,7 @@ use block::checks::check_length;
 use terms::refusal::Refusal;
 
 impl<K: Kind> Loop<K> {
-    /// The settings that the loop was read with.
+    /// The settings that stand in the loop's state, as its kind defines them.
     pub fn settings(&self) -> K::Settings
         ensures { result ≡ K.settings_of self.now.state }
     {
