@@ -1,5 +1,5 @@
 -- What the checks of a call's inputs say, and what every kind's laws go by. Assumes nothing.
-use Rattle.std.proofs.Common.{◌≡◌, false, T, Some, None, Ok, Err, Option, Result, refl, inl, inr}
+use Rattle.std.proofs.Common.{◌≡◌, false, T, Some, None, Ok, Err, Option, Result, IfOk, refl, inl, inr}
 use lib.Dec.{not_T}
 use lib.Ieee.{Float, of_bits}
 use lib.Ieee.Bits.{is_false}
@@ -8,13 +8,14 @@ use Rattle.std.specs.Float.{float_is_finite}
 use Rattle.std.specs.Float.Order.{le_right}
 use Rattle.terms.specs.declared.place.Place.{Place}
 use Rattle.terms.specs.declared.place.Place.TheVariants as at
+use Rattle.terms.specs.declared.refusal.Cause.{Cause}
 use Rattle.reals.specs.Numbers.{bottom, top}
 use Rattle.reals.specs.Reals.{inside, Within, Same}
 use Rattle.reals.proofs.OrderLaws.{eq_refl, finite_between}
-use Rattle.block.specs.Checks.{passed, tests, ◌next◌}
+use Rattle.block.specs.Checks.{passed, tests, ◌next◌, at_top, done}
 use Rattle.block.proofs.Passing.{spread, gather, range, in_range, passed_sound, sound_passed, next_ok, next_on, if_ok, OnOk}
 use Rattle.loops.specs.Inputs.{percent_checks, inputs_passed, no_percent}
-use Rattle.loops.specs.Outcomes.{seen}
+use Rattle.loops.specs.Outcomes.{seen, after}
 
 -- ---- reals
 
@@ -59,3 +60,8 @@ taken_on P put p k = next_on (λ _. Within p bottom top) P (passed (percent_chec
 pub seen_ok : {A B E : Type 0} (f : A → B) (o : Result A E) (b : B) → seen f o ≡ Ok b → (a : A) × (o ≡ Ok a) × (f a ≡ b)
 seen_ok f (Ok a) b e = (a, refl, cc)
 seen_ok f (Err x) b e = cc
+
+-- what holds of what a call came to holds of what it leaves, where it is accepted
+pub settled : {S : Type 0} (P : S → Type 0) (s : S) (o : Result S Cause) → ((t : S) → o ≡ Ok t → P t) → IfOk (at_top (done o)) (λ x. P (after s o))
+settled P s (Ok t) h = h t refl
+settled P s (Err e) h = tt

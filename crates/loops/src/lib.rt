@@ -5,4 +5,5 @@ pub mod inputs;
 pub mod kind;
 pub mod reading;
 pub mod running;
+pub mod settling;
 pub mod writing;

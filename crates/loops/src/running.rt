@@ -9,6 +9,7 @@ ghost use Rattle.loops.specs.Meaning.{Ranges, Echoes, Followed, Scanned, Entered
 ghost use Rattle.loops.specs.Outcomes.{after, answer};
 
 use crate::kind::Kind;
+use crate::settling::settle;
 use terms::entry::Entry;
 use terms::refusal::Refusal;
 use terms::told::Told;
@@ -60,7 +61,8 @@ impl<K: Kind> Loop<K> {
         ensures leaves { self.new.state ≡ after self.old.state (K.scanned self.old.state m remote) }
         ensures means { IfOk result (λ _. Scanned K.echo remote (K.told self.old.state) (K.told self.new.state)) }
     {
-        self.state = K::scan(self.state, m, remote)?;
+        let outcome = K::scan(self.state, m, remote);
+        settle(&mut self.state, outcome)?;
         Ok(K::answer(self.state))
     }
 
@@ -72,8 +74,8 @@ impl<K: Kind> Loop<K> {
         ensures declines { (Within p bottom top → ⊥) → result ≡ Err (refused (no_percent p)) }
         ensures means { IfOk result (λ _. Followed K.echo p (K.told self.old.state) (K.told self.new.state)) }
     {
-        self.state = K::follow(self.state, p)?;
-        Ok(())
+        let outcome = K::follow(self.state, p);
+        settle(&mut self.state, outcome)
     }
 
     /// An operator's entry.
@@ -82,7 +84,7 @@ impl<K: Kind> Loop<K> {
         ensures leaves { self.new.state ≡ after self.old.state (K.entered self.old.state entry) }
         ensures means { IfOk result (λ _. Entered K.echo entry (K.told self.old.state) (K.told self.new.state)) }
     {
-        self.state = K::enter(self.state, entry)?;
-        Ok(())
+        let outcome = K::enter(self.state, entry);
+        settle(&mut self.state, outcome)
     }
 }

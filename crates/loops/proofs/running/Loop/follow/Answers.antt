@@ -1,24 +1,22 @@
-use Rattle.std.proofs.Common.{◌≡◌, T, Err, sym, ap, ◌∙◌, rules}
-use Rattle.std.proofs.lemmas.Result.{err_from_is_err_and}
+use Rattle.std.proofs.Common.{T, refl, sym, ◌∙◌, rules}
 use lib.Ieee.{fits, binary32}
-use Rattle.terms.specs.declared.refusal.Refusal.{Refusal}
-use Rattle.terms.specs.Refusals.{refused}
-use Rattle.loops.specs.Inputs.{no_percent}
+use Rattle.loops.specs.Meaning.{Followed}
+use Rattle.loops.proofs.Given.{settled}
 use Rattle.loops.proofs.running.Loop.follow.Goals as goal
 
-pub returns-in_err-self-clause-takes : goal.returns-in_err-self-clause-takes
-returns-in_err-self-clause-takes g c w =
+pub returns-clause-takes : goal.returns-clause-takes
+returns-clause-takes g c w =
     let h : T (fits binary32 c.args.p) = search rules in
     let taken = g.met.K.Kind.follows c.args.self.now.state c.args.p c.args.self.now.ok h w in
-    cc (c.in_err-self.ensures, taken.1)
+    c.settle.ensures.answers ∙ rw (c.follow-outcome.ensures, taken.1) refl
 
-pub returns-in_err-self-clause-declines : goal.returns-in_err-self-clause-declines
-returns-in_err-self-clause-declines g c out =
-    let p = err_from_is_err_and c.from_residual.result c.from_residual.ensures.1 in
-    let cause : c.in_err-self.field-0.0 ≡ no_percent c.args.p = cc (c.in_err-self.ensures, g.met.K.Kind.declines c.args.self.now.state c.args.p out) in
-    p.1 ∙ ap (λ (y : Refusal). Err y) (p.2 ∙ ap refused cause)
+pub returns-clause-declines : goal.returns-clause-declines
+returns-clause-declines g c out =
+    c.settle.ensures.answers ∙ rw (c.follow-outcome.ensures, g.met.K.Kind.declines c.args.self.now.state c.args.p out) refl
 
 pub returns-clause-means : goal.returns-clause-means
 returns-clause-means g c =
     let k = c.args.self.now in
-    g.met.K.Kind.follow_means k.state c.in_ok-self.field-0 c.args.p k.ok (sym c.in_ok-self.ensures)
+    rw (c.settle.ensures.answers, c.settle.ensures.leaves)
+    (settled (λ t. Followed g.K.Kind.echo c.args.p (g.K.Kind.told k.state) (g.K.Kind.told t)) k.state c.follow-outcome.result
+    (λ t e. g.met.K.Kind.follow_means k.state t c.args.p k.ok (sym c.follow-outcome.ensures ∙ e)))
