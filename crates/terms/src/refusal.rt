@@ -3,6 +3,7 @@ ghost use Rattle.std.specs.Prelude.{◌≡◌};
 ghost use Rattle.terms.specs.Refusals.{step_number, cause_number, cause_place, refused};
 
 use crate::place::Place;
+use std::fmt;
 use thiserror::Error;
 
 /// Why a call is refused.
@@ -82,7 +83,7 @@ impl Cause {
 }
 
 /// A refusal: its cause, and the level of the loop that refuses.
-#[derive(Clone, Copy, Debug, PartialEq, Eq, Error)]
+#[derive(Clone, Copy, PartialEq, Eq, Error)]
 #[error("refused by {}, level {level}, place {}: {cause}", .cause.number(), .cause.place())]
 pub struct Refusal {
     pub cause: Cause,
@@ -95,5 +96,12 @@ impl From<Cause> for Refusal {
 
     fn from(cause: Cause) -> Refusal {
         Refusal { cause, level: 0 }
+    }
+}
+
+// By hand, since a plant reads a refusal by its number and place wherever one is printed, at the end of a program too.
+impl fmt::Debug for Refusal {
+    fn fmt<W: fmt::Write>(&self, f: &mut fmt::Formatter<W>) -> fmt::Result {
+        write!(f, "{self}")
     }
 }
