@@ -77,9 +77,10 @@ const SHIFT: [Act; 20] = [
     Act::Scan(40.0, None),
 ];
 
-// Does an act, and prints it with its answer. A width pads text only, so the act is made text first.
-fn show_act(rt: &(impl Print + Alloc), pid: &mut Loop<Pid>, act: Act) -> io::Result<()> {
-    let says = format!(in rt.alloc(); "{act}")?;
+// Does an act, and prints it with its answer. A width pads text only, so the act is made text first, in place: the shift takes no memory from the heap.
+fn show_act(rt: &impl Print, pid: &mut Loop<Pid>, act: Act) -> io::Result<()> {
+    let text = fmt::InlineText::<64>::of(act);
+    let says = text.as_str();
     match act.perform(pid) {
         Ok(None) => println!(rt; "{says:<26}ok"),
         Ok(Some((mv, alm))) => println!(rt; "{says:<26}ok, MV {mv}, ALM {alm:04X}"),
@@ -96,7 +97,7 @@ fn show_told(rt: &impl Print, pid: &Loop<Pid>) -> io::Result<()> {
 }
 
 // Starts a standard block cold and works through the shift.
-fn show_shift(rt: &(impl Print + Alloc)) -> anyhow::Result<()> {
+fn show_shift(rt: &impl Print) -> anyhow::Result<()> {
     println!(rt; "A shift at the loop of a standard block:")?;
     let mut pid = Block::<Pid>::read(&standard_words(), standard_settings())?.cold_start();
     for act in SHIFT {
