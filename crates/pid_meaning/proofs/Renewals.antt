@@ -1,6 +1,6 @@
 -- Fields of which some are renewed within their ranges pass every check again. Assumes nothing.
 use Rattle.std.proofs.Common.{ℕ, T, ltb, arith, rules}
-use lib.Ieee.{Float, binary32, fits}
+use lib.Ieee.{Float, binary32, fits, le}
 use Rattle.std.specs.Float.{float_is_finite}
 use Rattle.terms.specs.declared.mode.Mode.{Mode}
 use Rattle.terms.specs.declared.entry.Limits.{Limits}
@@ -95,6 +95,7 @@ pub record LimitsIn (l : Limits) : Type 0 where
   pub mh_in : Within l.mh bottom top
   pub ml_in : Within l.ml bottom top
   pub dml_in : Within l.dml zero hundred
+  pub ordered : T (le l.ml l.mh)
 
 pub limits_in : (l : Limits) → T (all (tests (limits_checks l))) → LimitsIn l
 limits_in l t = let checks = spread (tests (limits_checks l)) t in search (rules, range)
