@@ -116,7 +116,7 @@ impl Kind for Pid {
     }
 
     fn follow(state: State, p: f32) -> Result<State, Cause> {
-        // By `match`: with `?`, and with `map`, the fields are copied twice more, which took half as long again.
+        // By `match`: by `?`, which copies the fields twice more, a follow took half as long again, and by `map` no less.
         match follow_fields(state.fields, p) {
             Ok(fields) => Ok(State { fields, ..state }),
             Err(cause) => Err(cause),
